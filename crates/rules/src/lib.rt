@@ -1,0 +1,3 @@
+//! Tables of rules.
+pub mod questions;
+pub mod table;
