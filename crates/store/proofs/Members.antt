@@ -1,4 +1,4 @@
--- A set of facts by its members: two rising lists with the same members are one. Assumes nothing.
+-- A set of facts by its members: two rising lists with the same members are one.
 use mathlib.Core.Path.{_≡_, refl, sym, ap, _∙_, subst}
 use mathlib.Core.Bool.{Bool, true, false, cond, not, _&&_, _||_}
 use mathlib.Core.Logic.{_⊎_, inl, inr, ⊎-elim}

@@ -1,18 +1,15 @@
--- `before` is a strict total order on facts, and `same` is equality. Assumes nothing.
+-- `before` is a strict total order on facts, and `same` is equality.
 use mathlib.Core.Path.{_≡_, refl, sym, ap, _∙_}
 use mathlib.Core.Bool.{Bool, true, false, cond, not, _&&_, _||_}
 use mathlib.Core.Logic.{_⊎_, inl, inr}
 use Prim.Native.Nat.{ℕ, _<_, _≤_}
 use lib.IntN.{ℤ, pos, negsuc, _+ℤ_}
-use mir.Syntax.{w32}
-use mir.Val.{SFits}
 use lib.Signed.{ltZ, leZ, _<ℤ_, _≤ℤ_}
 use native.Mathlib.Omega.{arith}
-use borrow.Author.Needs.{needs}
 use Rattle.std.proofs.shelf.Ways.{tells}
 use Rattle.std.proofs.shelf.Signed.{ints}
 use Rattle.store.specs.declared.facts.Fact.{Fact}
-use Rattle.store.specs.Facts.{before, same, in-range, fact-of}
+use Rattle.store.specs.Facts.{before, same, fact-of, Strict-total-order, Equality}
 
 leZ-antisym : (a b : ℤ) → leZ a b ≡ true → leZ b a ≡ true → a ≡ b
 leZ-antisym a b p q = grind (arith, ints)
@@ -41,9 +38,8 @@ pub same-eq : (a b : Fact) → same a b ≡ true → a ≡ b
 unfolding same
 same-eq a b p = fact-same a b (grind (arith, tells)) (grind (arith, tells)) (leZ-antisym _ _ (grind (arith, tells)) (grind (arith, tells)))
 
-pub past-fits : (a : Fact) → in-range a ≡ true → SFits w32 (a .value +ℤ pos 1)
-unfolding in-range
-past-fits a h =
-    let low : negsuc 999999999 ≤ℤ a .value = grind (arith, tells, ints) in
-    let high : a .value ≤ℤ pos 1000000000 = grind (arith, tells, ints) in
-    search needs
+pub order : Strict-total-order before
+order = record { irreflexive = before-irrefl; transitive = before-trans; connected = before-connex }
+
+pub equality : Equality same
+equality = record { reflexive = same-refl; sound = same-eq }

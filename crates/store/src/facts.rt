@@ -1,9 +1,9 @@
-// One fact: a relation, a key and a value.
+// One fact: a relation, a key and a value. Each call here takes constant time.
 ghost use mathlib.Core.Path.{_≡_};
-ghost use mathlib.Core.Bool.{true};
-ghost use Rattle.store.specs.Facts.{before, same, in-range, least-of, past};
-ghost use Rattle.store.specs.Queries.{value-in};
+ghost use Rattle.store.specs.Facts.{before, same, in-range, least-of, past, value-in, Strict-total-order, Equality};
 
+// A fact in range has a relation from 0 to 15, a key from 0 to 65,535 and a value from -1,000,000,000 to
+// 1,000,000,000. The types are wider, so that a call can be asked about a fact that is out of range.
 #[derive(Clone, Copy)]
 pub struct Fact {
     pub relation: u8,
@@ -13,7 +13,8 @@ pub struct Fact {
 
 // Whether `a` comes before `b`: by relation, then by key, then by value.
 pub fn is_before(a: Fact, b: Fact) -> bool
-    ensures { λ r. ⌜ r ≡ before a b ⌝ }
+    ensures answer { λ r. ⌜ r ≡ before a b ⌝ }
+    ensures order { λ _. ⌜ Strict-total-order before ⌝ }
 {
     if a.relation != b.relation {
         return a.relation < b.relation;
@@ -25,7 +26,8 @@ pub fn is_before(a: Fact, b: Fact) -> bool
 }
 
 pub fn is_same(a: Fact, b: Fact) -> bool
-    ensures { λ r. ⌜ r ≡ same a b ⌝ }
+    ensures answer { λ r. ⌜ r ≡ same a b ⌝ }
+    ensures equality { λ _. ⌜ Equality same ⌝ }
 {
     if a.relation != b.relation || a.key != b.key {
         return false;
@@ -54,15 +56,14 @@ impl Fact {
         }
     }
 
-    // Where a walk goes on after this fact.
+    // Where a walk goes on after this fact: the next value, or this one where the type has no greater.
     pub fn past(self) -> Fact
-        requires { ⌜ in-range self ≡ true ⌝ }
         ensures { λ r. ⌜ r ≡ past self ⌝ }
     {
         Fact {
             relation: self.relation,
             key: self.key,
-            value: self.value + 1,
+            value: self.value.saturating_add(1),
         }
     }
 

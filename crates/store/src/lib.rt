@@ -1,17 +1,14 @@
-// Facts, and two stores that keep a finite set of them behind one interface.
+// Facts, sets of facts, and the interface behind which a store keeps one.
+//
+// Sessions and queries are written against the trait `Store` alone. The crates `liststore` and `gridstore` have
+// one store each.
+pub mod by_members;
 mod facts;
-mod grid;
-mod list;
-mod queries;
 mod stores;
 
 pub use facts::Fact;
+pub use facts::is_before;
 pub use facts::is_in_range;
-pub use grid::GridStore;
-pub use grid::GridStoreStore;
-pub use list::ListStore;
-pub use list::ListStoreStore;
-pub use queries::number;
-pub use queries::some;
+pub use facts::is_same;
 pub use stores::Store;
 pub use stores::StoreFault;
