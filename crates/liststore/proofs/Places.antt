@@ -1,4 +1,4 @@
--- Sets of facts as rising lists. Assumes nothing.
+-- A fact's place in a rising list.
 use mathlib.Core.Path.{_≡_, refl, sym, ap, _∙_, subst}
 use mathlib.Core.Bool.{Bool, true, false, cond, not, _&&_, _||_}
 use mathlib.Core.Logic.{_⊎_, inl, inr}
@@ -13,9 +13,11 @@ use Rattle.std.proofs.shelf.Ways.{tells}
 use lib.Dec.{eqb}
 use Rattle.std.specs.declared.option.Option.{Option}
 use Rattle.std.specs.declared.option.Option.the-variants.{Some, None}
 use Rattle.store.specs.declared.facts.Fact.{Fact}
-use Rattle.store.specs.Facts.{before, same, before-all, rising, holds, with-fact, without-fact, at-or-after, first-from, position, in-range, all-in-range, FoundAt, AbsentAt}
-use Rattle.store.proofs.Order.{before-irrefl, before-trans, before-connex, same-refl, same-eq}
+use Rattle.store.specs.Facts.{before, same, before-all, rising, holds, with-fact, without-fact, at-or-after, first-from, in-range}
+use Rattle.liststore.specs.Places.{position, all-in-range, FoundAt, AbsentAt}
+use Rattle.store.proofs.Order.{before-trans, same-eq}
+use Rattle.store.proofs.Sets.{by-bool, after-not-same, otherwise-before, before-all-trans, absent-before-all, without-absent}
 
 pub position-le : (f : Fact) (xs : List Fact) → position f xs ≤ length xs
 position-le f [] = zero-le

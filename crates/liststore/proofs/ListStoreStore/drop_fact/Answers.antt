@@ -1,11 +1,12 @@
 use mathlib.Core.Path.{_≡_, sym, _∙_}
 use native.Mathlib.Omega.{arith}
 use Rattle.std.specs.Of.Vec.{vec-items}
 use Rattle.store.specs.Facts.{without-fact}
-use Rattle.store.specs.Stores.{list-meaning}
-use Rattle.store.proofs.Sets.{rising-without, in-range-without}
+use Rattle.liststore.specs.Places.{list-meaning}
+use Rattle.store.proofs.Sets.{rising-without}
+use Rattle.liststore.proofs.Places.{in-range-without}
 use Rattle.store.proofs.Puts.{drop-absent}
-use Rattle.store.proofs.list.ListStoreStore.drop_fact.Needs as need
+use Rattle.liststore.proofs.ListStoreStore.drop_fact.Needs as need
 
 pub returns-in-rest : need.returns-in-rest
 returns-in-rest c =

@@ -4,11 +4,13 @@ use Prim.Native.Nat.{_<_, _+_}
 use native.Mathlib.Omega.{arith}
 use Rattle.std.specs.Of.Vec.{vec-len, vec-cap, vec-items}
 use Rattle.std.specs.Results.{isOk}
-use Rattle.store.specs.Facts.{with-fact, rising, all-in-range, in-range}
-use Rattle.store.specs.Stores.{list-meaning}
-use Rattle.store.proofs.Sets.{rising-with, in-range-with}
+use Rattle.store.specs.Facts.{with-fact, rising, in-range}
+use Rattle.liststore.specs.Places.{all-in-range}
+use Rattle.liststore.specs.Places.{list-meaning}
+use Rattle.store.proofs.Sets.{rising-with}
+use Rattle.liststore.proofs.Places.{in-range-with}
 use Rattle.store.proofs.Puts.{put-present}
-use Rattle.store.proofs.list.ListStoreStore.put.Needs as need
+use Rattle.liststore.proofs.ListStoreStore.put.Needs as need
 
 pub returns-in-rest : need.returns-in-rest
 returns-in-rest c =
