@@ -1,4 +1,4 @@
--- The binary digits of a number, one by one. Assumes nothing.
+-- The binary digits of a number, one by one.
 use mathlib.Core.Path.{_≡_, refl, sym, ap, _∙_, subst}
 use mathlib.Core.Bool.{Bool, true, false, cond, not, _&&_, _||_}
 use mathlib.Core.Logic.{_⊎_, inl, inr, ⊎-elim}
@@ -11,10 +11,10 @@ use lib.Count.{ones, ones-step, trailingZeros, under}
 use Rattle.std.proofs.shelf.Bits.{shr-shr, shr-below, and-mask, one-shl, pow-below}
 use Rattle.std.proofs.shelf.Ways.{tells}
 use Rattle.std.proofs.shelf.Tests.{eq-eqb, ne-eqb, eqb-true}
-use Rattle.store.specs.Grid.{has-bit, FirstBit}
+use Rattle.gridstore.specs.Grid.{has-bit, FirstBit}
 use Rattle.std.specs.declared.option.Option.{Option}
 use Rattle.std.specs.declared.option.Option.the-variants.{Some, None}
 use Rattle.store.proofs.Sets.{by-bool}
 
 digit : (a : ℕ) → (a % 2 ≡ 0) ⊎ (a % 2 ≡ 1)
 digit a = grind (arith, eqb-tells-2 a)

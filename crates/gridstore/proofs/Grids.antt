@@ -1,4 +1,4 @@
--- The facts of a grid of words. Assumes nothing.
+-- The facts of a grid of words.
 use mathlib.Core.Path.{_≡_, refl, sym, ap, _∙_, subst}
 use mathlib.Core.Bool.{Bool, true, false, cond, not, _&&_, _||_}
 use mathlib.Core.Logic.{_⊎_, inl, inr, ⊎-elim}
@@ -16,18 +16,18 @@ use Rattle.std.proofs.shelf.Signed.{ints}
 use Rattle.std.proofs.shelf.Lists.{length-append, length-set, getD-set-same, getD-set-other, drop-more, drop-all}
 use native.Mathlib.Numerals.{add-one}
 use Rattle.std.proofs.shelf.Tests.{and-parts, and-from, both-ways, or-cases, or-from, or-parts, or-left, or-right, eqb-true, eqb-false, eq-eqb, cases-eq, and-right, ne-eqb, leb-true, le-leb, cases-lt}
 use Rattle.store.specs.declared.facts.Fact.{Fact}
 use Rattle.store.specs.Facts.{before, same, before-all, rising, holds, with-fact, without-fact, at-or-after, first-from, fact-of, in-range}
-use Rattle.store.specs.Grid.{grid-takes, word-of, bit-of, has-bit, grid-fact, word-facts, row-facts, words-facts, grid-meaning, FirstBit, LowBit}
+use Rattle.gridstore.specs.Grid.{grid-takes, word-of, bit-of, has-bit, grid-fact, word-facts, row-facts, words-facts, grid-meaning, FirstBit, LowBit}
 use Rattle.store.proofs.Walks.{first-relation}
 use Rattle.std.specs.declared.option.Option.{Option}
 use Rattle.std.specs.declared.option.Option.the-variants.{Some, None}
 use Rattle.store.specs.Stores.{Meaning}
 use Rattle.store.proofs.Order.{fact-same, before-irrefl, before-trans, before-connex, same-refl, same-eq}
 use Rattle.store.proofs.Sets.{by-bool, rising-with, rising-without, length-with-absent}
-use Rattle.store.proofs.Binary.{bit-set, bit-cleared, bit-test}
+use Rattle.gridstore.proofs.Binary.{bit-set, bit-cleared, bit-test}
 use lib.Bits.{bitAnd, bitOr}
 use Rattle.store.proofs.Members.{same-bool, holds-append, before-all-members, rising-append, same-members, holds-with, holds-without, first-is, first-none}
 
 -- ---- order and range
 

@@ -1,21 +1,25 @@
 // A store with one bit for each fact that it takes.
 ghost use mathlib.Core.Path.{_≡_};
-ghost use mathlib.Core.Bool.{true, false};
-ghost use mathlib.Core.List.{[]};
-ghost use Prim.Native.Nat.{ℕ, _≤_, _<_, _^_};
+ghost use mathlib.Core.Bool.{true};
+ghost use Prim.Native.Nat.{_≤_, _<_};
 ghost use lib.ListN.{length};
-ghost use Rattle.std.specs.Options.{Cases};
-ghost use Rattle.store.specs.Grid.{grid-takes, word-of, bit-of, has-bit, words-facts, grid-meaning, FirstBit, LowBit};
-use crate::facts::Fact;
-use crate::stores::Store;
-use crate::stores::StoreFault;
+ghost use Rattle.std.specs.declared.result.Result.the-variants.{Err};
+ghost use Rattle.store.specs.declared.stores.StoreFault.the-variants.{Full};
+ghost use Rattle.store.specs.Stores.{empty, put-answer, after-put};
+ghost use Rattle.gridstore.specs.Grid.{grid-takes, word-of, bit-of, grid-meaning, FirstBit, LowBit};
+use store::Fact;
+use store::Store;
+use store::StoreFault;
 
+// Takes the facts with keys from 0 to 63 and values from 0 to 63. Bit v of word 64 r + k stands for the fact of
+// relation r, key k and value v, so a word holds the values of one key, in order.
 #[derive(Drop)]
 pub struct GridStore {
     words: [u64; 1024],
     ghost size: { length words ≡ 1024 },
 }
 
+// Whether the grid has a bit for the fact.
 fn is_taken(fact: Fact) -> bool
     ensures { λ r. ⌜ r ≡ grid-takes fact ⌝ }
 {
@@ -25,6 +29,7 @@ fn is_taken(fact: Fact) -> bool
     0 <= fact.value && fact.value <= 63
 }
 
+// The word with the fact's bit.
 fn word_of(fact: Fact) -> usize
     requires { ⌜ grid-takes fact ≡ true ⌝ }
     ensures value { λ r. ⌜ r ≡ word-of fact ⌝ }
@@ -33,6 +38,7 @@ fn word_of(fact: Fact) -> usize
     fact.relation as usize * 64 + fact.key as usize
 }
 
+// The fact's bit in its word.
 fn bit_of(fact: Fact) -> u32
     requires { ⌜ grid-takes fact ≡ true ⌝ }
     ensures value { λ r. ⌜ r ≡ bit-of fact ⌝ }
@@ -41,7 +47,7 @@ fn bit_of(fact: Fact) -> u32
     fact.value as u32
 }
 
-// The first bit of the word that is set, from `low` on.
+// The first bit of the word that is set, from `low` on: a shift and a count of trailing zeros.
 fn first_bit(word: u64, low: u32) -> Option<u32>
     ensures { λ r. ⌜ FirstBit word low r ⌝ }
 {
@@ -70,8 +76,9 @@ fn low_bit(start: Fact, key: u32) -> u32
 }
 
 impl GridStore {
+    // An empty grid. It asks for no memory: the 1024 words are part of the value.
     pub fn new() -> GridStore
-        ensures { λ r. ⌜ grid-meaning (r .words) ≡ grid-meaning [] ⌝ }
+        ensures { λ r. ⌜ grid-meaning (r .words) ≡ empty grid-takes 65536 ⌝ }
     {
         GridStore { words: [0; 1024] }
     }
@@ -80,6 +87,7 @@ impl GridStore {
 pub impl Store for GridStore as GridStoreStore {
     ghost meaning = { λ s. grid-meaning (s .words) };
 
+    // Reads one word.
     fn contains(&self, fact: Fact) -> bool {
         if !is_taken(fact) {
             return false;
@@ -87,6 +95,7 @@ pub impl Store for GridStore as GridStoreStore {
         (self.words[word_of(fact)] >> bit_of(fact)) & 1 == 1
     }
 
+    // Counts the ones of the 1024 words.
     fn count(&self) -> usize {
         let mut total = 0;
         for word in &self.words {
@@ -95,14 +104,17 @@ pub impl Store for GridStore as GridStoreStore {
         total
     }
 
+    // Constant time.
     fn takes_fact(&self, fact: Fact) -> bool {
         is_taken(fact)
     }
 
+    // Constant time.
     fn capacity(&self) -> usize {
         65_536
     }
 
+    // Reads at most one word for each key from the start's on.
     fn walk(&self, start: Fact) -> Option<Fact> {
         if start.relation > 15 || start.key > 63 {
             return None;
@@ -120,7 +132,12 @@ pub impl Store for GridStore as GridStoreStore {
         None
     }
 
-    fn put(&mut self, fact: Fact) -> Result<bool, StoreFault> {
+    // Writes at most one word. A clear bit is room, so this is never refused with 58.
+    fn put(&mut self, fact: Fact) -> Result<bool, StoreFault>
+        ensures answer { λ r. ⌜ r ≡ put-answer fact (grid-meaning (now (self .entry) .words)) ⌝ }
+        ensures after { λ _. ⌜ grid-meaning (now (self .exit) .words) ≡ after-put fact (grid-meaning (now (self .entry) .words)) ⌝ }
+        ensures room { λ r. ⌜ (r ≡ Err Full → ⊥) ⌝ }
+    {
         if !is_taken(fact) {
             return Err(StoreFault::NotTaken);
         }
@@ -131,6 +148,7 @@ pub impl Store for GridStore as GridStoreStore {
         Ok(true)
     }
 
+    // Writes at most one word.
     fn drop_fact(&mut self, fact: Fact) -> bool {
         if !self.contains(fact) {
             return false;

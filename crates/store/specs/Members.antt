@@ -17,7 +17,6 @@ use Rattle.store.specs.Stores.{Meaning, answer-number}
 
 infix 30 _∈_
 infix 10 _⇔_
-
 -- f is one of the facts
 abbrev pub _∈_ : Fact → List Fact → Type 0
 f ∈ [] = ⊥

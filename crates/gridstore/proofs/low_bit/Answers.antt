@@ -7,10 +7,10 @@ use lib.Signed.{leZ, ltZ}
 use mir.Syntax.{w32}
 use mir.Val.{SFits}
 use Rattle.std.proofs.shelf.Signed.{toZ-ofZ}
-use Rattle.store.specs.Grid.{LowBit}
-use Rattle.store.proofs.Grids.{low-at-once, low-at-zero, low-at-none, low-at-value}
-use Rattle.store.proofs.grid.low_bit.Needs as need
-use Rattle.store.proofs.grid.low_bit.Needs.{then-key-start·by·then-key-start, then-key-start·by·else-key-start·then-start-le0}
+use Rattle.gridstore.specs.Grid.{LowBit}
+use Rattle.gridstore.proofs.Grids.{low-at-once, low-at-zero, low-at-none, low-at-value}
+use Rattle.gridstore.proofs.low_bit.Needs as need
+use Rattle.gridstore.proofs.low_bit.Needs.{then-key-start·by·then-key-start, then-key-start·by·else-key-start·then-start-le0}
 
 pub returns-then-key-start : need.returns-then-key-start
 returns-then-key-start c =
