@@ -1,0 +1,3 @@
+pub mod Queries
+pub mod Rows
+pub mod Walks
