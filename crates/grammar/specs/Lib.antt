@@ -1,0 +1,10 @@
+pub mod Entries
+pub mod Faults
+pub mod Grammar
+pub mod Reading
+pub mod Trees
+pub mod Files
+pub mod Formed
+pub mod Ordered
+pub mod TableText
+pub mod RoundTrip
