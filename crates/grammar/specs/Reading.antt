@@ -77,6 +77,10 @@ tested (Err k) s items = stop (fault-at s k)
 abbrev pub next : {V : Type 0} → Test V → Step V
 next test s = elim (s .rest) [ [] ↦ stop (fault-at s fault.Misfit) | (it ∷ items) ↦ tested (test it) s items ]
 
+-- any item
+abbrev pub any : Test Item
+any it = Ok it
+
 abbrev pub is : Kind → Test (Unit {0})
 is k it = cond (same (it .kind) k) (Ok tt) (Err fault.Misfit)
 

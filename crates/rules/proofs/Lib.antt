@@ -1,1 +1,4 @@
 pub mod Roots
+pub mod Taken
+pub mod Fits
+pub mod Slots

@@ -1,1 +1,3 @@
+pub mod Fitting
+pub mod Reads
 pub mod Tables

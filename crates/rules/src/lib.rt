@@ -1,3 +1,5 @@
-//! Tables of rules.
+//! Tables of rules, and the reader that fills them.
 pub mod questions;
+mod reader;
+mod steps;
 pub mod table;
