@@ -15,9 +15,11 @@ use Rattle.std.specs.declared.option.Option.{Option}
 use Rattle.std.specs.declared.option.Option.the-variants.{Some, None}
 use Rattle.store.specs.declared.facts.Fact.{Fact}
 use Rattle.store.specs.Facts.{before, same, before-all, rising, holds, with-fact, without-fact, at-or-after, first-from, in-range}
-use Rattle.liststore.specs.Places.{position, all-in-range, FoundAt, AbsentAt}
+use Rattle.std.specs.shelf.Maps.{nth}
+use Rattle.liststore.specs.Places.{position, all-in-range, of-start, Place, FoundAt, AbsentAt}
+use Rattle.store.proofs.Walks.{none-some, some-none, some-is}
 use Rattle.store.proofs.Order.{before-trans, same-eq}
-use Rattle.store.proofs.Sets.{by-bool, after-not-same, otherwise-before, before-all-trans, absent-before-all, without-absent}
+use Rattle.store.proofs.Sets.{by-bool, after-not-same, otherwise-before, before-all-trans, absent-before-all, with-present, without-absent}
 
 pub position-le : (f : Fact) (xs : List Fact) → position f xs ≤ length xs
 position-le f [] = zero-le
@@ -125,55 +127,57 @@ none-later s x (y ∷ ys) e q h =
     let n : at-or-after s y ≡ false = other-not-at s y (later-relation s x y e q (and-parts _ _ h .0)) in
     rw n (none-later s x ys e q (and-parts _ _ h .1))
 
-pub first-at : (s : Fact) (xs : List Fact) (d : Fact) → position s xs < length xs → eqb (getD xs (position s xs) d .relation) (s .relation) ≡ true → first-from s xs ≡ Some (getD xs (position s xs) d)
-first-at s [] d l e = absurd (not-suc-le-zero l)
-first-at s (x ∷ xs) d l e =
-    by-bool (before x s)
-    (λ k.
-    let n : at-or-after s x ≡ false = before-not-at s x k in
-    let l′ : position s xs < length xs = le-of-suc-le-suc (rw k at l) in
-    rw (n, k) (first-at s xs d l′ (rw k at e)))
-    (λ k.
-    let q : eqb (x .relation) (s .relation) ≡ true = rw k at e in
-    let n : at-or-after s x ≡ true = is-at s x k q in
-    rw (n, k))
-
-pub none-at : (s : Fact) (xs : List Fact) (d : Fact) → rising xs ≡ true → (position s xs < length xs → eqb (getD xs (position s xs) d .relation) (s .relation) ≡ false) → first-from s xs ≡ None
-none-at s [] d r e = refl
-none-at s (x ∷ xs) d r e =
-    by-bool (before x s)
-    (λ k.
-    let n : at-or-after s x ≡ false = before-not-at s x k in
-    rw n (none-at s xs d (and-parts _ _ r .1) (λ l. rw k at e (suc-le-suc l))))
-    (λ k.
-    let q : eqb (x .relation) (s .relation) ≡ false = rw k at e (suc-le-suc zero-le) in
-    let n : at-or-after s x ≡ false = other-not-at s x q in
-    rw n (none-later s x xs k q (and-parts _ _ r .0)))
-
 -- ---- what stands at a fact's place
 
-pub found-at : (f : Fact) (xs : List Fact) (n : ℕ) (x : Fact) → rising xs ≡ true → n ≡ position f xs → n < length xs → x ≡ getD xs n x → true ≡ same f x → FoundAt f xs n
-found-at f xs n x r e l g s =
-    let s′ : same f (getD xs n x) ≡ true = rw g at (sym s) in
+nth-within : (xs : List Fact) (n : ℕ) (x : Fact) → nth xs n ≡ Some x → n < length xs
+nth-within [] n x e = absurd (none-some x e)
+nth-within (y ∷ ys) zero x e = suc-le-suc zero-le
+nth-within (y ∷ ys) (suc n) x e = suc-le-suc (nth-within ys n x e)
+
+pub nth-is : (xs : List Fact) (n : ℕ) (x : Fact) → nth xs n ≡ Some x → x ≡ getD xs n x
+nth-is [] n x e = absurd (none-some x e)
+nth-is (y ∷ ys) zero x e = sym (some-is y x e)
+nth-is (y ∷ ys) (suc n) x e = nth-is ys n x e
+
+pub nth-none : (xs : List Fact) (n : ℕ) → nth xs n ≡ None → n < length xs → ⊥
+nth-none [] n e l = not-suc-le-zero l
+nth-none (y ∷ ys) zero e l = some-none y e
+nth-none (y ∷ ys) (suc n) e l = nth-none ys n e (le-of-suc-le-suc l)
+
+first-here : (s : Fact) (xs : List Fact) → rising xs ≡ true → first-from s xs ≡ of-start s (nth xs (position s xs))
+first-here s [] r = refl
+first-here s (x ∷ xs) r =
+    by-bool (before x s)
+    (λ k.
+    let n : at-or-after s x ≡ false = before-not-at s x k in
+    rw (k, n) (first-here s xs (and-parts _ _ r .1)))
+    (λ k.
+    by-bool (eqb (x .relation) (s .relation))
+    (λ q. let n : at-or-after s x ≡ true = is-at s x k q in rw (k, n, q))
+    (λ q. let n : at-or-after s x ≡ false = other-not-at s x q in rw (k, n, q) (none-later s x xs k q (and-parts _ _ r .0))))
+
+pub place : (f : Fact) (xs : List Fact) (n : ℕ) → rising xs ≡ true → n ≡ position f xs → Place f xs n
+place f xs n r e = rw e (record { is = refl; first = first-here f xs r })
+
+pub found-at : (f : Fact) (xs : List Fact) (n : ℕ) (x : Fact) → rising xs ≡ true → n ≡ position f xs → nth xs n ≡ Some x → same f x ≡ true → FoundAt f xs n
+found-at f xs n x r e g s =
+    let g′ : nth xs (position f xs) ≡ Some x = rw e at g in
+    let l : position f xs < length xs = nth-within xs (position f xs) x g′ in
+    let s′ : same f (getD xs (position f xs) x) ≡ true = subst (λ (y : Fact). same f y ≡ true) (nth-is xs (position f xs) x g′) s in
+    let h = holds-at f xs x l s′ in
     rw e (record {
-      within = rw e at l;
-      held = holds-at f xs x (rw e at l) (rw e at s′);
-      out = without-at f xs x r (rw e at l) (rw e at s′);
+      within = l;
+      held = h;
+      stays = with-present f xs r h;
+      out = without-at f xs x r l s′;
     })
 
 pub absent-here : (f : Fact) (xs : List Fact) (n : ℕ) (d : Fact) → rising xs ≡ true → n ≡ position f xs → (n < length xs → same f (getD xs n d) ≡ false) → AbsentAt f xs n
 absent-here f xs n d r e s =
+    let h = absent-at f xs d r (rw e at s) in
     rw e (record {
       within = position-le f xs;
-      missing = absent-at f xs d r (rw e at s);
+      missing = h;
+      stays = without-absent f xs h;
       into = with-absent f xs d (rw e at s);
     })
-
-pub walk-some : (s : Fact) (xs : List Fact) (n : ℕ) (x : Fact) → n ≡ position s xs → n < length xs → x ≡ getD xs n x → x .relation ≡ s .relation → Some x ≡ first-from s xs
-walk-some s xs n x e l g q =
-    let g′ : x ≡ getD xs (position s xs) x = rw e at g in
-    let q′ : eqb (getD xs (position s xs) x .relation) (s .relation) ≡ true = rw g′ at (eq-eqb (x .relation) (s .relation) q) in
-    ap Some g′ ∙ sym (first-at s xs x (rw e at l) q′)
-
-pub walk-none : (s : Fact) (xs : List Fact) (n : ℕ) (d : Fact) → rising xs ≡ true → n ≡ position s xs → (n < length xs → getD xs n d .relation ≡ s .relation → ⊥) → None ≡ first-from s xs
-walk-none s xs n d r e q = sym (none-at s xs d r (λ l. ne-eqb _ _ (rw e at q l)))

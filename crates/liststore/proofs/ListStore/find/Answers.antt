@@ -1,23 +1,24 @@
-use mathlib.Core.Path.{sym, _≡_}
+use mathlib.Core.Path.{_≡_, sym, subst}
 use mathlib.Core.Bool.{false}
-use Prim.Native.Nat.{_≤_, _<_}
-use native.Mathlib.Omega.{arith}
-use lib.ListN.{length, getD}
-use Rattle.liststore.proofs.Places.{found-at, absent-here}
+use Rattle.store.specs.declared.facts.Fact.{Fact}
+use Rattle.store.specs.Facts.{same}
+use Rattle.liststore.proofs.Places.{found-at, absent-here, nth-none, nth-is}
 use Rattle.liststore.proofs.ListStore.find.Needs as need
-use Rattle.liststore.proofs.ListStore.find.Needs.{else-at-len·by·then-at-len·else-is-same, else-at-len·by·else-at-len}
+
+pub returns-in-rest : need.returns-in-rest
+returns-in-rest c =
+    let s = c .args .self .now in
+    absent-here (c .args .fact) (s .facts .items) (c .place-of-at .result) (c .args .fact) (s .ordered) (c .place-of-at .ensures .is)
+    (λ h. absurd (nth-none (s .facts .items) (c .place-of-at .result) (sym (c .in-rest .ensures tt)) h))
 
 pub returns-then-is-same : need.returns-then-is-same
 returns-then-is-same c =
     let s = c .args .self .now in
-    found-at (c .args .fact) (s .facts .items) (c .place-of-at .result) (c .index .result .now) (s .ordered) (c .place-of-at .ensures) (omega (arith, s .facts .ok .0)) (c .index .ensures) (c .if-is-same .ensures tt .answer)
+    found-at (c .args .fact) (s .facts .items) (c .place-of-at .result) (c .in-Some .found) (s .ordered) (c .place-of-at .ensures .is) (sym (c .in-Some .ensures tt)) (sym (c .if-is-same .ensures tt .answer))
 
-pub returns-else-at-len : need.returns-else-at-len
-returns-else-at-len c =
+pub returns-else-is-same : need.returns-else-is-same
+returns-else-is-same c =
     let s = c .args .self .now in
-    elim (c .else-at-len .came) [
-      | else-at-len·by·then-at-len·else-is-same w ↦
-          absent-here (c .args .fact) (s .facts .items) (c .place-of-at .result) (w .index .result .now) (s .ordered) (c .place-of-at .ensures) (λ _. rw (w .index .ensures) at (sym (w .if-is-same .ensures tt .answer)))
-      | else-at-len·by·else-at-len w ↦
-          absent-here (c .args .fact) (s .facts .items) (c .place-of-at .result) (c .args .fact) (s .ordered) (c .place-of-at .ensures) (λ h. absurd (omega (arith, s .facts .ok .0)))
-    ]
+    let here = nth-is (s .facts .items) (c .place-of-at .result) (c .in-Some .found) (sym (c .in-Some .ensures tt)) in
+    absent-here (c .args .fact) (s .facts .items) (c .place-of-at .result) (c .in-Some .found) (s .ordered) (c .place-of-at .ensures .is)
+    (λ _. subst (λ (x : Fact). same (c .args .fact) x ≡ false) here (sym (c .if-is-same .ensures tt .answer)))
