@@ -18,13 +18,14 @@ use native.Mathlib.Numerals.{add-one}
 use Rattle.std.proofs.shelf.Tests.{and-parts, and-from, both-ways, or-cases, or-from, or-parts, or-left, or-right, eqb-true, eqb-false, eq-eqb, cases-eq, and-right, ne-eqb, leb-true, le-leb, cases-lt}
 use Rattle.store.specs.declared.facts.Fact.{Fact}
 use Rattle.store.specs.Facts.{before, same, before-all, rising, holds, with-fact, without-fact, at-or-after, first-from, fact-of, in-range}
-use Rattle.gridstore.specs.Grid.{grid-takes, word-of, bit-of, has-bit, grid-fact, word-facts, row-facts, words-facts, grid-meaning, FirstBit, LowBit}
+use Rattle.gridstore.specs.Grid.{grid-takes, word-of, bit-of, has-bit, grid-fact, word-facts, row-facts, words-facts, grid-meaning, FirstBit, LowBit, Present, Absent}
 use Rattle.store.proofs.Walks.{first-relation}
+use Rattle.std.specs.Orderings.{When}
 use Rattle.std.specs.declared.option.Option.{Option}
 use Rattle.std.specs.declared.option.Option.the-variants.{Some, None}
 use Rattle.store.specs.Stores.{Meaning}
 use Rattle.store.proofs.Order.{fact-same, before-irrefl, before-trans, before-connex, same-refl, same-eq}
-use Rattle.store.proofs.Sets.{by-bool, rising-with, rising-without, length-with-absent}
+use Rattle.store.proofs.Sets.{by-bool, rising-with, rising-without, with-present, without-absent, length-with-absent}
 use Rattle.gridstore.proofs.Binary.{bit-set, bit-cleared, bit-test}
 use lib.Bits.{bitAnd, bitOr}
 use Rattle.store.proofs.Members.{same-bool, holds-append, before-all-members, rising-append, same-members, holds-with, holds-without, first-is, first-none}
@@ -329,6 +330,25 @@ module _ (ws : List ℕ) (size : length ws ≡ 1024) (f : Fact) (t : grid-takes 
 
   pub grid-contains : (n p : ℕ) → n ≡ word-of f → p ≡ bit-of f → eqb (bitAnd (getD ws n 0 / 2 ^ p) 1) 1 ≡ holds f (words-facts 0 ws)
   grid-contains n p i b = rw (i, b) (bit-test (getD ws (word-of f) 0) (bit-of f) ∙ sym (held ws size f t))
+
+-- ---- a fact's bit, as a put and a drop want it
+
+module _ (ws : List ℕ) (size : length ws ≡ 1024) (f : Fact) where
+  abbrev facts : List Fact
+  facts = words-facts 0 ws
+
+  pub absent-taken-not : grid-takes f ≡ false → Absent f facts
+  absent-taken-not t =
+      let h = not-held ws size f t in
+      record { missing = h; stays = without-absent f facts h; room = λ u. absurd (both-ways (grid-takes f) t u) }
+
+  pub test-cases : grid-takes f ≡ true → (r : Bool) → r ≡ holds f facts → When r (Present f facts) (Absent f facts)
+  test-cases t true e = record { held = sym e; taken = t; stays = with-present f facts (words-rise 0 ws) (sym e) }
+  test-cases t false e = record {
+    missing = sym e;
+    stays = without-absent f facts (sym e);
+    room = λ _. grid-room ws size f t (sym e);
+  }
 
 -- ---- the count, word by word
 

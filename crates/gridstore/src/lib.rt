@@ -6,7 +6,9 @@ ghost use lib.ListN.{length};
 ghost use Rattle.std.specs.declared.result.Result.the-variants.{Err};
 ghost use Rattle.store.specs.declared.stores.StoreFault.the-variants.{Full};
 ghost use Rattle.store.specs.Stores.{empty, put-answer, after-put};
-ghost use Rattle.gridstore.specs.Grid.{grid-takes, word-of, bit-of, grid-meaning, FirstBit, LowBit};
+ghost use Rattle.gridstore.specs.Grid.{grid-takes, word-of, bit-of, words-facts, grid-meaning, Present, Absent, FirstBit, LowBit};
+ghost use Rattle.std.specs.Orderings.{When};
+ghost use Rattle.store.specs.Facts.{holds, with-fact, without-fact, first-from};
 use store::Fact;
 use store::Store;
 use store::StoreFault;
@@ -75,6 +77,18 @@ fn low_bit(start: Fact, key: u32) -> u32
     start.value as u32
 }
 
+// How many bits of the words are set.
+fn ones_of(words: &[u64]) -> usize
+    requires { ⌜ length (now words) ≤ 1024 ⌝ }
+    ensures { λ r. ⌜ r ≡ length (words-facts 0 (now (words .entry))) ⌝ }
+{
+    let mut total = 0;
+    for word in words {
+        total += word.count_ones() as usize;
+    }
+    total
+}
+
 impl GridStore {
     // An empty grid. It asks for no memory: the 1024 words are part of the value.
     pub fn new() -> GridStore
@@ -82,40 +96,36 @@ impl GridStore {
     {
         GridStore { words: [0; 1024] }
     }
-}
 
-pub impl Store for GridStore as GridStoreStore {
-    ghost meaning = { λ s. grid-meaning (s .words) };
-
-    // Reads one word.
-    fn contains(&self, fact: Fact) -> bool {
+    // Whether the fact's bit is set.
+    fn is_set(&self, fact: Fact) -> bool
+        ensures answer { λ r. ⌜ r ≡ holds fact (words-facts 0 (now (self .entry) .words)) ⌝ }
+        ensures cases { λ r. ⌜ When r (Present fact (words-facts 0 (now (self .entry) .words))) (Absent fact (words-facts 0 (now (self .entry) .words))) ⌝ }
+    {
         if !is_taken(fact) {
             return false;
         }
         (self.words[word_of(fact)] >> bit_of(fact)) & 1 == 1
     }
 
-    // Counts the ones of the 1024 words.
-    fn count(&self) -> usize {
-        let mut total = 0;
-        for word in &self.words {
-            total += word.count_ones() as usize;
-        }
-        total
+    fn set_bit(&mut self, fact: Fact)
+        requires { ⌜ grid-takes fact ≡ true ⌝ }
+        ensures { λ _. ⌜ words-facts 0 (now (self .exit) .words) ≡ with-fact fact (words-facts 0 (now (self .entry) .words)) ⌝ }
+    {
+        self.words[word_of(fact)] |= 1 << bit_of(fact);
     }
 
-    // Constant time.
-    fn takes_fact(&self, fact: Fact) -> bool {
-        is_taken(fact)
+    fn clear_bit(&mut self, fact: Fact)
+        requires { ⌜ grid-takes fact ≡ true ⌝ }
+        ensures { λ _. ⌜ words-facts 0 (now (self .exit) .words) ≡ without-fact fact (words-facts 0 (now (self .entry) .words)) ⌝ }
+    {
+        self.words[word_of(fact)] &= !(1 << bit_of(fact));
     }
 
-    // Constant time.
-    fn capacity(&self) -> usize {
-        65_536
-    }
-
-    // Reads at most one word for each key from the start's on.
-    fn walk(&self, start: Fact) -> Option<Fact> {
+    // The first fact of the start's relation at or after it, word by word from the start's key on.
+    fn first_at(&self, start: Fact) -> Option<Fact>
+        ensures { λ r. ⌜ r ≡ first-from start (words-facts 0 (now (self .entry) .words)) ⌝ }
+    {
         if start.relation > 15 || start.key > 63 {
             return None;
         }
@@ -131,6 +141,35 @@ pub impl Store for GridStore as GridStoreStore {
         }
         None
     }
+}
+
+pub impl Store for GridStore as GridStoreStore {
+    ghost meaning = { λ s. grid-meaning (s .words) };
+
+    // Reads one word.
+    fn contains(&self, fact: Fact) -> bool {
+        self.is_set(fact)
+    }
+
+    // Counts the ones of the 1024 words.
+    fn count(&self) -> usize {
+        ones_of(&self.words)
+    }
+
+    // Constant time.
+    fn takes_fact(&self, fact: Fact) -> bool {
+        is_taken(fact)
+    }
+
+    // Constant time.
+    fn capacity(&self) -> usize {
+        65_536
+    }
+
+    // Reads at most one word for each key from the start's on, and counts trailing zeros.
+    fn walk(&self, start: Fact) -> Option<Fact> {
+        self.first_at(start)
+    }
 
     // Writes at most one word. A clear bit is room, so this is never refused with 58.
     fn put(&mut self, fact: Fact) -> Result<bool, StoreFault>
@@ -138,22 +177,22 @@ pub impl Store for GridStore as GridStoreStore {
         ensures after { λ _. ⌜ grid-meaning (now (self .exit) .words) ≡ after-put fact (grid-meaning (now (self .entry) .words)) ⌝ }
         ensures room { λ r. ⌜ (r ≡ Err Full → ⊥) ⌝ }
     {
-        if !is_taken(fact) {
+        if !self.takes_fact(fact) {
             return Err(StoreFault::NotTaken);
         }
-        if self.contains(fact) {
+        if self.is_set(fact) {
             return Ok(false);
         }
-        self.words[word_of(fact)] |= 1 << bit_of(fact);
+        self.set_bit(fact);
         Ok(true)
     }
 
     // Writes at most one word.
     fn drop_fact(&mut self, fact: Fact) -> bool {
-        if !self.contains(fact) {
+        if !self.is_set(fact) {
             return false;
         }
-        self.words[word_of(fact)] &= !(1 << bit_of(fact));
+        self.clear_bit(fact);
         true
     }
 }
