@@ -1,5 +1,8 @@
 pub mod KindLaws
 pub mod Theorems
+pub mod Places
+pub mod Folds
+pub mod Turns
 pub mod Stamps
 pub mod Related
 pub mod Growing

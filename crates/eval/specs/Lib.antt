@@ -1,2 +1,4 @@
 pub mod Truth
 pub mod Rows
+pub mod Stamps
+pub mod Columns

@@ -1,0 +1,9 @@
+use mathlib.Core.Path.{ap, _∙_}
+use Rattle.eval.specs.Stamps.{timed}
+use Rattle.eval.specs.Truth.{once}
+use Rattle.eval.proofs.operators.at_sofar.Needs as need
+
+pub returns : need.returns
+returns g c p =
+    let k = g .K·Truth .kind in
+    c .not .ensures ∙ ap (k .not) (c .at-once .ensures p ∙ ap (λ f. once k (timed k (c .args .stamps .now) p) (c .args .w) f (c .args .i)) (c .negation .ensures .value))
