@@ -1,1 +1,4 @@
 pub mod Places
+pub mod NodeTexts
+pub mod RuleTexts
+pub mod Written

@@ -1,2 +1,8 @@
 //! The text of a table of rules, written into a buffer.
+mod arguments;
+pub mod fault;
+mod nodes;
+mod parts;
 mod place;
+mod rules;
+pub mod write;

@@ -1,0 +1,27 @@
+-- What the writer answers and leaves in the buffer.
+use mathlib.Core.Path.{_≡_}
+use mathlib.Core.List.{List, [], map, _++_}
+use Prim.Native.Nat.{ℕ, _<_, _≤_}
+use lib.Dec.{leb}
+use mathlib.Core.Bool.{cond}
+use lib.ListN.{length, drop}
+use Rattle.std.specs.declared.result.Result.{Result}
+use Rattle.std.specs.declared.result.Result.the-variants.{Ok, Err}
+use Rattle.rules.specs.declared.table.Table.{Table}
+use Rattle.rules.specs.Nodes.{entry-of}
+use Rattle.rules.specs.Tables.{nodes-of, rules-of}
+use Rattle.rules.specs.TableText.{table-text}
+use Rattle.writer.specs.declared.fault.WriteFault.{WriteFault}
+use Rattle.writer.specs.declared.fault.WriteFault.the-variants.{TooShort}
+
+-- a table's text
+abbrev pub text-of : Table → List ℕ
+text-of t = table-text (map entry-of (nodes-of t)) (rules-of t)
+
+-- the length of a text that the buffer has room for, else the refusal
+abbrev pub answer : List ℕ → List ℕ → Result ℕ WriteFault
+answer text buffer = cond (leb (length text) (length buffer)) (Ok (length text)) (Err TooShort)
+
+-- the text at the front, and the bytes beyond it as they were; a buffer without room stays as it was
+abbrev pub left : List ℕ → List ℕ → List ℕ
+left text buffer = cond (leb (length text) (length buffer)) (text ++ drop (length text) buffer) buffer
