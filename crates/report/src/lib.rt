@@ -1,0 +1,4 @@
+//! What the rule checker prints.
+mod append;
+mod excerpt;
+pub mod line;
