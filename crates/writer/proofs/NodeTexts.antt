@@ -13,11 +13,12 @@ use Rattle.syntax.specs.declared.Node.{Node}
 use Rattle.syntax.specs.declared.Node.the-variants as node
 use Rattle.syntax.specs.declared.Query.the-variants as query
 use Rattle.syntax.specs.Nodes.{Ordered, place}
-use Rattle.rules.specs.Nodes.{Entry, entry-of}
-use Rattle.rules.specs.Ordered.{all-below, ordered}
-use Rattle.rules.specs.Text.{word-text, arg-text, spaced, entry-text}
-use Rattle.rules.specs.TableText.{head-text, node-text, texts}
-use Rattle.rules.proofs.OrderedNodes.{text-at}
+use Rattle.grammar.specs.Entries.{Entry, entry-of}
+use Rattle.grammar.specs.Ordered.{all-below, ordered}
+use Rattle.items.specs.Tokens.{word-text}
+use Rattle.grammar.specs.TableText.{arg-text, spaced, entry-text, node-text, texts}
+use Rattle.writer.specs.Parts.{head-text}
+use Rattle.grammar.proofs.OrderedNodes.{text-at}
 use Rattle.writer.specs.Places.{Puts}
 use Rattle.writer.proofs.Places.{then-puts, puts-same}
 

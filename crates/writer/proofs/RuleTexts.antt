@@ -12,7 +12,7 @@ use lib.Seq.{take-all}
 use Rattle.std.proofs.shelf.Tests.{and-parts}
 use Rattle.syntax.specs.declared.Rule.{Rule}
 use Rattle.syntax.specs.Nodes.{rooted}
-use Rattle.rules.specs.TableText.{rule-text, rules-text}
+use Rattle.grammar.specs.TableText.{rule-text, rules-text}
 use Rattle.writer.specs.Places.{Puts}
 use Rattle.writer.proofs.Places.{then-puts, puts-same}
 

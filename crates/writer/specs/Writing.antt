@@ -8,9 +8,9 @@ use lib.ListN.{length, drop}
 use Rattle.std.specs.declared.result.Result.{Result}
 use Rattle.std.specs.declared.result.Result.the-variants.{Ok, Err}
 use Rattle.rules.specs.declared.table.Table.{Table}
-use Rattle.rules.specs.Nodes.{entry-of}
+use Rattle.grammar.specs.Entries.{entry-of}
 use Rattle.rules.specs.Tables.{nodes-of, rules-of}
-use Rattle.rules.specs.TableText.{table-text}
+use Rattle.grammar.specs.TableText.{table-text}
 use Rattle.writer.specs.declared.fault.WriteFault.{WriteFault}
 use Rattle.writer.specs.declared.fault.WriteFault.the-variants.{TooShort}
 

@@ -1,8 +1,8 @@
 //! Puts the arguments of a node.
 ghost use mathlib.Core.List.{[], _∷_, map};
 ghost use mathlib.Core.Path.{_≡_};
-ghost use Rattle.rules.specs.Nodes.{entry-of, end, window};
-ghost use Rattle.rules.specs.Text.{arg-text, spaced};
+ghost use Rattle.grammar.specs.Entries.{entry-of, end, window};
+ghost use Rattle.grammar.specs.TableText.{arg-text, spaced};
 ghost use Rattle.writer.specs.Places.{Puts};
 use crate::place::put;
 use crate::place::put_signed;

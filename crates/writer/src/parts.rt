@@ -1,7 +1,7 @@
 //! The word and the operands of a node.
 ghost use mathlib.Core.Path.{_≡_};
-ghost use Rattle.rules.specs.Nodes.{entry-of};
-ghost use Rattle.rules.specs.Text.{word-text};
+ghost use Rattle.grammar.specs.Entries.{entry-of};
+ghost use Rattle.items.specs.Tokens.{word-text};
 ghost use Rattle.writer.specs.Parts.{operand-list};
 use syntax::Node;
 use syntax::Query;

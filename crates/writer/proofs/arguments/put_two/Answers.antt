@@ -1,6 +1,6 @@
 use mathlib.Core.Path.{sym, ap}
 use mathlib.Core.List.{[], _∷_, _++_, append-nil}
-use Rattle.rules.specs.Text.{arg-text}
+use Rattle.grammar.specs.TableText.{arg-text}
 use Rattle.writer.proofs.Places.{then-puts, puts-same}
 use Rattle.writer.proofs.arguments.put_two.Needs as need
 

@@ -1,7 +1,7 @@
 use mathlib.Core.List.{[], map}
 use lib.ListN.{length}
-use Rattle.rules.specs.Nodes.{entry-of}
-use Rattle.rules.specs.TableText.{texts}
+use Rattle.grammar.specs.Entries.{entry-of}
+use Rattle.grammar.specs.TableText.{texts}
 use Rattle.writer.proofs.RuleTexts.{root-at, none-puts, more-puts, all-puts}
 use Rattle.writer.proofs.rules.put_rules.Needs as need
 

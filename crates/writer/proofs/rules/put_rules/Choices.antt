@@ -1,6 +1,6 @@
 use mathlib.Core.List.{[], map}
-use Rattle.rules.specs.Nodes.{entry-of}
-use Rattle.rules.specs.TableText.{texts}
+use Rattle.grammar.specs.Entries.{entry-of}
+use Rattle.grammar.specs.TableText.{texts}
 use Rattle.writer.proofs.RuleTexts.{Sofar}
 use Rattle.writer.proofs.rules.put_rules.Given as given
 

@@ -1,9 +1,9 @@
 use mathlib.Core.Path.{_≡_, ap, _∙_}
 use mathlib.Core.List.{[], map}
 use native.Mathlib.Omega.{arith}
-use Rattle.rules.specs.Nodes.{entry-of}
+use Rattle.grammar.specs.Entries.{entry-of}
 use Rattle.rules.specs.Tables.{nodes-of}
-use Rattle.rules.specs.TableText.{table-text}
+use Rattle.grammar.specs.TableText.{table-text}
 use Rattle.writer.specs.Writing.{text-of}
 use Rattle.writer.proofs.Places.{puts-same}
 use Rattle.writer.proofs.Written.{written-answer, written-buffer}
