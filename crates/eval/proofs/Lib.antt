@@ -2,6 +2,8 @@ pub mod KindLaws
 pub mod Theorems
 pub mod Places
 pub mod Folds
+pub mod Values
+pub mod Filling
 pub mod Turns
 pub mod Stamps
 pub mod Related

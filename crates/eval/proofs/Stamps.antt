@@ -48,16 +48,17 @@ module _ (ts : List ℕ) (i : ℕ) (p : 0 < i) (inv : rising (drop (i - 1) ts) �
 
   pub rising-goes : i < length ts → getD ts (i - 1) 0 < getD ts i 0 → (0 < i + 1) × (rising (drop (i + 1 - 1) ts) ≡ rising ts)
   rising-goes l h =
-      let e : i + 1 - 1 ≡ i = omega arith in
-      (omega arith,
-      ap (λ n. rising (drop n ts)) e ∙ sym (ap (λ b. b && rising (drop i ts)) (lt-ltb (getD ts (i - 1) 0) (getD ts i 0) h)) ∙ sym (rising-step ts i p l) ∙ inv)
+      let e : i + 1 - 1 ≡ i = omega arith in (
+        omega arith,
+        ap (λ n. rising (drop n ts)) e ∙ sym (ap (λ b. b && rising (drop i ts)) (lt-ltb (getD ts (i - 1) 0) (getD ts i 0) h)) ∙ sym (rising-step ts i p l) ∙ inv,
+      )
 
   pub rising-ends : length ts ≤ i → true ≡ rising ts
   rising-ends l =
       ⊎-elim
       (λ lt.
-        let e : length ts ≤ i - 1 + 1 = omega arith in
-        sym (at-drop-more rising ts (i - 1) 0 lt ∙ at-drop-all (λ xs. rising (getD ts (i - 1) 0 ∷ xs)) ts (i - 1 + 1) e) ∙ inv)
+      let e : length ts ≤ i - 1 + 1 = omega arith in
+      sym (at-drop-more rising ts (i - 1) 0 lt ∙ at-drop-all (λ xs. rising (getD ts (i - 1) 0 ∷ xs)) ts (i - 1 + 1) e) ∙ inv)
       (λ le. sym (at-drop-all rising ts (i - 1) le) ∙ inv)
       (cases-lt (i - 1) (length ts))
 

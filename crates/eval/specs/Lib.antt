@@ -1,4 +1,6 @@
 pub mod Truth
-pub mod Rows
 pub mod Stamps
+pub mod Rows
 pub mod Columns
+pub mod Steps
+pub mod Values

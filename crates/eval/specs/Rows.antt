@@ -6,6 +6,7 @@ use lib.Dec.{eqb}
 use lib.ListN.{getD}
 use Rattle.truth.specs.Kinds.{Kind}
 use Rattle.eval.specs.Truth.{Record}
+use Rattle.eval.specs.Stamps.{record-of}
 
 -- bit m of a row, from the lowest
 abbrev pub bit-of : ℕ → ℕ → Bool
@@ -21,4 +22,4 @@ module _ {K : Type 0} (k : Kind K) where
   row-leaf rows i m = truth-of (bit-of (getD rows i 0) m)
 
   abbrev pub row-record : List ℕ → List ℕ → K → Record K
-  row-record stamps rows pending = record { stamps = stamps; leaf = row-leaf rows; pending = pending }
+  row-record stamps rows pending = record-of stamps (row-leaf rows) pending

@@ -20,3 +20,7 @@ span stamps i j = getD stamps j 0 - getD stamps i 0
 -- a record as the temporal operators see it, which look at no query
 abbrev pub timed : {K : Type 0} → Kind K → List ℕ → K → Record K
 timed k stamps pending = record { stamps = stamps; leaf = λ i m. k .no; pending = pending }
+
+-- a record from its parts
+abbrev pub record-of : {K : Type 0} → List ℕ → (ℕ → ℕ → K) → K → Record K
+record-of stamps leaf pending = record { stamps = stamps; leaf = leaf; pending = pending }

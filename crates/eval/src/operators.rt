@@ -40,7 +40,13 @@ fn open_mark<K: Truth>(stamps: &[u64], i: usize, w: Window, pending: K) -> K
 }
 
 /// The operand at some state of the future window, or the open mark. Cost: the states up to the window's end.
-pub(crate) fn at_sometime<K: Truth>(stamps: &[u64], operand: &Column<'_, K>, i: usize, w: Window, pending: K) -> K
+pub(crate) fn at_sometime<K: Truth>(
+    stamps: &[u64],
+    operand: &Column<'_, K>,
+    i: usize,
+    w: Window,
+    pending: K,
+) -> K
     requires within { ⌜ i < length (now stamps) ⌝ ∗ ⌜ now operand .states ≡ length (now stamps) ⌝ }
     requires rises { ⌜ rising (now stamps) ≡ true ⌝ }
     ensures { λ r. ⌜ r ≡ sometime kind (timed kind (now (stamps .entry)) pending) w (at kind (now (operand .entry))) i ⌝ }
@@ -55,7 +61,13 @@ pub(crate) fn at_sometime<K: Truth>(stamps: &[u64], operand: &Column<'_, K>, i: 
 }
 
 /// The operand at every state of the future window. Cost: that of sometime.
-pub(crate) fn at_always<K: Truth>(stamps: &[u64], operand: &Column<'_, K>, i: usize, w: Window, pending: K) -> K
+pub(crate) fn at_always<K: Truth>(
+    stamps: &[u64],
+    operand: &Column<'_, K>,
+    i: usize,
+    w: Window,
+    pending: K,
+) -> K
     requires within { ⌜ i < length (now stamps) ⌝ ∗ ⌜ now operand .states ≡ length (now stamps) ⌝ }
     requires rises { ⌜ rising (now stamps) ≡ true ⌝ }
     ensures { λ r. ⌜ r ≡ always kind (timed kind (now (stamps .entry)) pending) w (at kind (now (operand .entry))) i ⌝ }
@@ -94,7 +106,13 @@ pub(crate) fn at_until<K: Truth>(
 }
 
 /// The operand at the next state, if it lies in the window; at the last state the open mark. Cost: one state.
-pub(crate) fn at_next<K: Truth>(stamps: &[u64], operand: &Column<'_, K>, i: usize, w: Window, pending: K) -> K
+pub(crate) fn at_next<K: Truth>(
+    stamps: &[u64],
+    operand: &Column<'_, K>,
+    i: usize,
+    w: Window,
+    pending: K,
+) -> K
     requires within { ⌜ i < length (now stamps) ⌝ ∗ ⌜ now operand .states ≡ length (now stamps) ⌝ }
     ensures { λ r. ⌜ r ≡ next kind (timed kind (now (stamps .entry)) pending) w (at kind (now (operand .entry))) i ⌝ }
 {
@@ -107,7 +125,13 @@ pub(crate) fn at_next<K: Truth>(stamps: &[u64], operand: &Column<'_, K>, i: usiz
 }
 
 /// The negation of next over the negated operand. Cost: that of next.
-pub(crate) fn at_allnext<K: Truth>(stamps: &[u64], operand: &Column<'_, K>, i: usize, w: Window, pending: K) -> K
+pub(crate) fn at_allnext<K: Truth>(
+    stamps: &[u64],
+    operand: &Column<'_, K>,
+    i: usize,
+    w: Window,
+    pending: K,
+) -> K
     requires within { ⌜ i < length (now stamps) ⌝ ∗ ⌜ now operand .states ≡ length (now stamps) ⌝ }
     ensures { λ r. ⌜ r ≡ allnext kind (timed kind (now (stamps .entry)) pending) w (at kind (now (operand .entry))) i ⌝ }
 {
@@ -115,9 +139,14 @@ pub(crate) fn at_allnext<K: Truth>(stamps: &[u64], operand: &Column<'_, K>, i: u
 }
 
 /// The operand at the previous state, if there is one in the window. Cost: one state.
-pub(crate) fn at_previous<K: Truth>(stamps: &[u64], operand: &Column<'_, K>, i: usize, w: Window) -> K
+pub(crate) fn at_previous<K: Truth>(
+    stamps: &[u64],
+    operand: &Column<'_, K>,
+    i: usize,
+    w: Window,
+) -> K
     requires within { ⌜ i < length (now stamps) ⌝ ∗ ⌜ now operand .states ≡ length (now stamps) ⌝ }
-    ensures { λ r. ⌜ ((pending : K) → r ≡ previous kind (timed kind (now (stamps .entry)) pending) w (at kind (now (operand .entry))) i) ⌝ }
+    ensures { λ r. ⌜ r ≡ previous kind (timed kind (now (stamps .entry)) (kind .no)) w (at kind (now (operand .entry))) i ⌝ }
 {
     if 0 < i {
         let j = i - 1;
@@ -137,7 +166,7 @@ pub(crate) fn at_since<K: Truth>(
 ) -> K
     requires within { ⌜ i < length (now stamps) ⌝ ∗ ⌜ now first .states ≡ length (now stamps) ⌝ ∗ ⌜ now second .states ≡ length (now stamps) ⌝ }
     requires rises { ⌜ rising (now stamps) ≡ true ⌝ }
-    ensures { λ r. ⌜ ((pending : K) → r ≡ since kind (timed kind (now (stamps .entry)) pending) w (at kind (now (first .entry))) (at kind (now (second .entry))) i) ⌝ }
+    ensures { λ r. ⌜ r ≡ since kind (timed kind (now (stamps .entry)) (kind .no)) w (at kind (now (first .entry))) (at kind (now (second .entry))) i ⌝ }
 {
     let start = past_start(stamps, i, w);
     let mut any = K::no();
@@ -156,7 +185,7 @@ pub(crate) fn at_since<K: Truth>(
 pub(crate) fn at_once<K: Truth>(stamps: &[u64], operand: &Column<'_, K>, i: usize, w: Window) -> K
     requires within { ⌜ i < length (now stamps) ⌝ ∗ ⌜ now operand .states ≡ length (now stamps) ⌝ }
     requires rises { ⌜ rising (now stamps) ≡ true ⌝ }
-    ensures { λ r. ⌜ ((pending : K) → r ≡ once kind (timed kind (now (stamps .entry)) pending) w (at kind (now (operand .entry))) i) ⌝ }
+    ensures { λ r. ⌜ r ≡ once kind (timed kind (now (stamps .entry)) (kind .no)) w (at kind (now (operand .entry))) i ⌝ }
 {
     let start = past_start(stamps, i, w);
     let mut any = K::no();
@@ -171,7 +200,7 @@ pub(crate) fn at_once<K: Truth>(stamps: &[u64], operand: &Column<'_, K>, i: usiz
 pub(crate) fn at_sofar<K: Truth>(stamps: &[u64], operand: &Column<'_, K>, i: usize, w: Window) -> K
     requires within { ⌜ i < length (now stamps) ⌝ ∗ ⌜ now operand .states ≡ length (now stamps) ⌝ }
     requires rises { ⌜ rising (now stamps) ≡ true ⌝ }
-    ensures { λ r. ⌜ ((pending : K) → r ≡ sofar kind (timed kind (now (stamps .entry)) pending) w (at kind (now (operand .entry))) i) ⌝ }
+    ensures { λ r. ⌜ r ≡ sofar kind (timed kind (now (stamps .entry)) (kind .no)) w (at kind (now (operand .entry))) i ⌝ }
 {
     at_once(stamps, &negation(operand), i, w).not()
 }

@@ -10,23 +10,25 @@ use Rattle.eval.proofs.operators.at_since.Needs as need
 
 pub loop-j-holds : need.loop-j-holds
 loop-j-holds g c =
-    let k = g .K·Truth .kind in
-    (c .past-start-start .ensures .within,
-    subst (λ x. Back (g .K·Truth·met .laws) (timed k (c .args .stamps .now) (k .no)) (c .args .w) (λ j. k .and (at k (c .args .second .now) j) (all k (suc (c .args .i)) (λ m. ltb j m) (at k (c .args .first .now)))) (c .args .i) (c .args .i + 1) x) (sym (c .no-any .ensures)) (past-start (g .K·Truth·met .laws) (timed k (c .args .stamps .now) (k .no)) (c .args .w) (λ j. k .and (at k (c .args .second .now) j) (all k (suc (c .args .i)) (λ m. ltb j m) (at k (c .args .first .now)))) (c .args .i)),
-    c .yes-held .ensures ∙ since-start (g .K·Truth·met .laws) (timed k (c .args .stamps .now) (k .no)) (c .args .w) (at k (c .args .first .now)) (c .args .i))
+    let k = g .K·Truth .kind in (
+      c .past-start-start .ensures .within,
+      subst (λ x. Back (g .K·Truth·met .laws) (timed k (c .args .stamps .now) (k .no)) (c .args .w) (λ j. k .and (at k (c .args .second .now) j) (all k (suc (c .args .i)) (λ m. ltb j m) (at k (c .args .first .now)))) (c .args .i) (c .args .i + 1) x) (sym (c .no-any .ensures)) (past-start (g .K·Truth·met .laws) (timed k (c .args .stamps .now) (k .no)) (c .args .w) (λ j. k .and (at k (c .args .second .now) j) (all k (suc (c .args .i)) (λ m. ltb j m) (at k (c .args .first .now)))) (c .args .i)),
+      c .yes-held .ensures ∙ since-start (g .K·Truth·met .laws) (timed k (c .args .stamps .now) (k .no)) (c .args .w) (at k (c .args .first .now)) (c .args .i),
+    )
 
 pub loop-j-again : need.loop-j-again
 loop-j-again g c =
-    let k = g .K·Truth .kind in
-    (omega (arith, c .loop-j .inv .0),
-    past-turn (g .K·Truth·met .laws) (timed k (c .args .stamps .now) (k .no)) (c .args .w) (λ j. k .and (at k (c .args .second .now) j) (all k (suc (c .args .i)) (λ m. ltb j m) (at k (c .args .first .now)))) (c .args .i) (c .loop-j .j)
-      (omega arith) (omega arith) (c .loop-j .inv .1) (c .distance .ensures) (c .contains .ensures)
-      (since-here (g .K·Truth·met .laws) (timed k (c .args .stamps .now) (k .no)) (c .args .w) (at k (c .args .first .now)) (at k (c .args .second .now)) (c .args .i) (c .loop-j .j) (omega arith) (c .loop-j .inv .2) (c .read-b .ensures) (c .and-here .ensures))
-      (c .only-if .ensures) (c .or-any .ensures),
-    since-turn (g .K·Truth·met .laws) (timed k (c .args .stamps .now) (k .no)) (c .args .w) (at k (c .args .first .now)) (c .args .i) (c .loop-j .j) (omega arith) (omega arith) (c .loop-j .inv .2) (c .read-a .ensures) (c .and-held .ensures))
+    let k = g .K·Truth .kind in (
+      omega (arith, c .loop-j .inv .0),
+      past-turn (g .K·Truth·met .laws) (timed k (c .args .stamps .now) (k .no)) (c .args .w) (λ j. k .and (at k (c .args .second .now) j) (all k (suc (c .args .i)) (λ m. ltb j m) (at k (c .args .first .now)))) (c .args .i) (c .loop-j .j)
+          (omega arith) (omega arith) (c .loop-j .inv .1) (c .distance .ensures) (c .contains .ensures)
+          (since-here (g .K·Truth·met .laws) (timed k (c .args .stamps .now) (k .no)) (c .args .w) (at k (c .args .first .now)) (at k (c .args .second .now)) (c .args .i) (c .loop-j .j) (omega arith) (c .loop-j .inv .2) (c .read-b .ensures) (c .and-here .ensures))
+          (c .only-if .ensures) (c .or-any .ensures),
+      since-turn (g .K·Truth·met .laws) (timed k (c .args .stamps .now) (k .no)) (c .args .w) (at k (c .args .first .now)) (c .args .i) (c .loop-j .j) (omega arith) (omega arith) (c .loop-j .inv .2) (c .read-a .ensures) (c .and-held .ensures),
+    )
 
 pub returns : need.returns
-returns g c p =
+returns g c =
     let k = g .K·Truth .kind in
     past-end (g .K·Truth·met .laws) (timed k (c .args .stamps .now) (k .no)) (c .args .w) (λ j. k .and (at k (c .args .second .now) j) (all k (suc (c .args .i)) (λ m. ltb j m) (at k (c .args .first .now)))) (c .args .i) (c .loop-j .j) (c .past-start-start .result)
     (c .pre .rises) (c .pre .within .0) (omega arith) (c .loop-j .inv .0) (c .past-start-start .ensures .within) (c .past-start-start .ensures .beyond) (c .loop-j .inv .1)

@@ -4,6 +4,6 @@ use Rattle.eval.specs.Truth.{once}
 use Rattle.eval.proofs.operators.at_sofar.Needs as need
 
 pub returns : need.returns
-returns g c p =
+returns g c =
     let k = g .K·Truth .kind in
-    c .not .ensures ∙ ap (k .not) (c .at-once .ensures p ∙ ap (λ f. once k (timed k (c .args .stamps .now) p) (c .args .w) f (c .args .i)) (c .negation .ensures .value))
+    c .not .ensures ∙ ap (k .not) (c .at-once .ensures ∙ ap (λ f. once k (timed k (c .args .stamps .now) (k .no)) (c .args .w) f (c .args .i)) (c .negation .ensures .value))

@@ -21,6 +21,6 @@ returns g c =
     let k = g .K·Truth .kind in
     c .or .ensures
     ∙ ap₂ (k .or)
-      (future-end (g .K·Truth·met .laws) (timed k (c .args .stamps .now) (c .args .pending)) (c .args .w) (at k (c .args .operand .now)) (c .args .i) (c .loop-j .j) (c .future-end-end .result)
-        (c .pre .rises) (omega arith) (omega arith) (c .future-end-end .ensures .from) (c .future-end-end .ensures .within) (c .future-end-end .ensures .beyond) (c .loop-j .inv))
-      (c .open-mark .ensures)
+    (future-end (g .K·Truth·met .laws) (timed k (c .args .stamps .now) (c .args .pending)) (c .args .w) (at k (c .args .operand .now)) (c .args .i) (c .loop-j .j) (c .future-end-end .result)
+    (c .pre .rises) (omega arith) (omega arith) (c .future-end-end .ensures .from) (c .future-end-end .ensures .within) (c .future-end-end .ensures .beyond) (c .loop-j .inv))
+    (c .open-mark .ensures)

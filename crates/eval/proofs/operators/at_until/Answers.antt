@@ -9,22 +9,24 @@ use Rattle.eval.proofs.operators.at_until.Needs as need
 
 pub loop-j-holds : need.loop-j-holds
 loop-j-holds g c =
-    let k = g .K·Truth .kind in
-    (c .no-any .ensures ∙ future-start (g .K·Truth·met .laws) (timed k (c .args .stamps .now) (c .args .pending)) (c .args .w) (λ j. k .and (at k (c .args .second .now) j) (all k j (λ m. leb (c .args .i) m) (at k (c .args .first .now)))) (c .args .i),
-    c .yes-held .ensures ∙ kept-start (g .K·Truth·met .laws) (timed k (c .args .stamps .now) (c .args .pending)) (c .args .w) (at k (c .args .first .now)) (c .args .i))
+    let k = g .K·Truth .kind in (
+      c .no-any .ensures ∙ future-start (g .K·Truth·met .laws) (timed k (c .args .stamps .now) (c .args .pending)) (c .args .w) (λ j. k .and (at k (c .args .second .now) j) (all k j (λ m. leb (c .args .i) m) (at k (c .args .first .now)))) (c .args .i),
+      c .yes-held .ensures ∙ kept-start (g .K·Truth·met .laws) (timed k (c .args .stamps .now) (c .args .pending)) (c .args .w) (at k (c .args .first .now)) (c .args .i),
+    )
 
 pub loop-j-again : need.loop-j-again
 loop-j-again g c =
-    let k = g .K·Truth .kind in
-    (future-turn (g .K·Truth·met .laws) (timed k (c .args .stamps .now) (c .args .pending)) (c .args .w) (λ j. k .and (at k (c .args .second .now) j) (all k j (λ m. leb (c .args .i) m) (at k (c .args .first .now)))) (c .args .i) (c .loop-j .j)
-      (omega arith) (c .loop-j .inv .0) (c .distance .ensures) (c .contains .ensures) (c .and-here .ensures ∙ ap₂ (k .and) (c .read-b .ensures) (c .loop-j .inv .1)) (c .only-if .ensures) (c .or-any .ensures),
-    kept-turn (g .K·Truth·met .laws) (timed k (c .args .stamps .now) (c .args .pending)) (c .args .w) (at k (c .args .first .now)) (c .args .i) (c .loop-j .j) (omega arith) (c .loop-j .inv .1) (c .read-a .ensures) (c .and-held .ensures))
+    let k = g .K·Truth .kind in (
+      future-turn (g .K·Truth·met .laws) (timed k (c .args .stamps .now) (c .args .pending)) (c .args .w) (λ j. k .and (at k (c .args .second .now) j) (all k j (λ m. leb (c .args .i) m) (at k (c .args .first .now)))) (c .args .i) (c .loop-j .j)
+          (omega arith) (c .loop-j .inv .0) (c .distance .ensures) (c .contains .ensures) (c .and-here .ensures ∙ ap₂ (k .and) (c .read-b .ensures) (c .loop-j .inv .1)) (c .only-if .ensures) (c .or-any .ensures),
+      kept-turn (g .K·Truth·met .laws) (timed k (c .args .stamps .now) (c .args .pending)) (c .args .w) (at k (c .args .first .now)) (c .args .i) (c .loop-j .j) (omega arith) (c .loop-j .inv .1) (c .read-a .ensures) (c .and-held .ensures),
+    )
 
 pub returns : need.returns
 returns g c =
     let k = g .K·Truth .kind in
     c .or .ensures
     ∙ ap₂ (k .or)
-      (future-end (g .K·Truth·met .laws) (timed k (c .args .stamps .now) (c .args .pending)) (c .args .w) (λ j. k .and (at k (c .args .second .now) j) (all k j (λ m. leb (c .args .i) m) (at k (c .args .first .now)))) (c .args .i) (c .loop-j .j) (c .future-end-end .result)
-        (c .pre .rises) (omega arith) (omega arith) (c .future-end-end .ensures .from) (c .future-end-end .ensures .within) (c .future-end-end .ensures .beyond) (c .loop-j .inv .0))
-      (c .and .ensures ∙ ap₂ (k .and) (c .pre .keeps) (c .open-mark .ensures))
+    (future-end (g .K·Truth·met .laws) (timed k (c .args .stamps .now) (c .args .pending)) (c .args .w) (λ j. k .and (at k (c .args .second .now) j) (all k j (λ m. leb (c .args .i) m) (at k (c .args .first .now)))) (c .args .i) (c .loop-j .j) (c .future-end-end .result)
+    (c .pre .rises) (omega arith) (omega arith) (c .future-end-end .ensures .from) (c .future-end-end .ensures .within) (c .future-end-end .ensures .beyond) (c .loop-j .inv .0))
+    (c .and .ensures ∙ ap₂ (k .and) (c .pre .keeps) (c .open-mark .ensures))
