@@ -1,3 +1,4 @@
 pub mod Turns
 pub mod Keys
 pub mod Bits
+pub mod Meanings

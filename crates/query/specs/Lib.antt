@@ -1,3 +1,4 @@
+pub mod Meanings
 pub mod Queries
 pub mod Rows
 pub mod Walks

@@ -4,6 +4,7 @@ ghost use mathlib.Core.Bool.{_&&_};
 ghost use lib.Dec.{leb};
 ghost use lib.ListN.{length};
 ghost use Rattle.store.specs.Facts.{of-relation};
+ghost use Rattle.query.specs.Meanings.{Meant, Says};
 ghost use Rattle.query.specs.Queries.{answer};
 use crate::walks::Test;
 use crate::walks::all;
@@ -25,6 +26,13 @@ fn has_number<S: Store>(store: &S, relation: u8, low: u32, high: u32) -> bool
 /// The query's answer on the facts of the store.
 /// Cost: each fact of the query's relation at most once, with one walk more for each by `Refer` and `Level`; `Fact` is one question.
 pub fn ask<S: Store>(store: &S, query: Query) -> bool
+    ensures value { λ r. ⌜ r ≡ answer query (meaning (now (store .entry)) .facts) ⌝ }
+    ensures words { λ r. ⌜ Says r (Meant query (meaning (now (store .entry)) .facts)) ⌝ }
+{
+    answer_of(store, query)
+}
+
+pub fn answer_of<S: Store>(store: &S, query: Query) -> bool
     ensures { λ r. ⌜ r ≡ answer query (meaning (now (store .entry)) .facts) ⌝ }
 {
     match query {

@@ -6,7 +6,7 @@ ghost use lib.ListN.{length};
 ghost use Rattle.rules.specs.Tables.{nodes-of};
 ghost use Rattle.query.specs.Queries.{node-answer};
 ghost use Rattle.query.specs.Rows.{Answers, row-of};
-use crate::answers::ask;
+use crate::answers::answer_of;
 use rules::table::Table;
 use store::Store;
 use syntax::Node;
@@ -15,7 +15,7 @@ fn node_answer<S: Store>(store: &S, node: Node) -> bool
     ensures { λ r. ⌜ r ≡ node-answer node (meaning (now (store .entry)) .facts) ⌝ }
 {
     match node {
-        Node::Query(query) => ask(store, query),
+        Node::Query(query) => answer_of(store, query),
         _ => false,
     }
 }
