@@ -151,7 +151,7 @@ args-ok (slot ∷ more) l before s (x ∷ xs) r h e =
       rest = m .rest;
       reads = arguments-then slot more before s (left s (sp .rest)) (left s (f .rest)) (left s (m .rest)) (f .item) (m .its) (sp .reads) n (m .reads);
       args = ap (λ y. y ∷ map arg (m .its)) (a .1) ∙ ap (λ ys. x ∷ ys) (m .args);
-      are = m .are
+      are = m .are;
     }
 
 -- the state after a formula

@@ -95,7 +95,7 @@ ruled least s r t h =
       root = m .number ∙ ap (λ u. length u + inside (m .tree)) ns;
       opened = go ∙ m .opened ∙ ap (λ u. u + (inside (m .tree) + 1)) os;
       nodes = gn ∙ m .nodes ∙ ap (λ u. nodes-after u (m .tree)) ns;
-      few = omega (arith, go, m .few)
+      few = omega (arith, go, m .few);
     })
 
 -- rules that are read
@@ -145,7 +145,7 @@ lines-more k ih least s (it ∷ items) e rs t h =
       are = ap (λ x. x ∷ c .value) root ∙ ap (λ x. rule-of (b .value .number) (length (s .nodes) + inside (l .tree)) ∷ x) (m .are ∙ ap (λ u. lines-rules u (m .lines)) bn);
       nodes = m .nodes ∙ ap (λ u. lines-nodes u (m .lines)) bn;
       opened = omega (arith, m .opened, l .opened, os);
-      few = λ _. m .few (l .few)
+      few = λ _. m .few (l .few);
     })
 
 pub rules-read : (k least : ℕ) (s : State) (rs : List Rule) (t : State) → rules k least s ≡ done rs t → Lines k least s rs t

@@ -188,7 +188,7 @@ args-read (slot ∷ more) l before s its t h =
     args-same (slot ∷ more) before s (y .value ∷ z .value) its (z .state) t (z .then-done) (record {
       was = p .was ∙ ap (λ u. plain kind.Space ∷ tokens u) e1 ∙ ap (λ u. plain kind.Space ∷ u ∷ tokens (q .rest)) e3 ∙ ap (λ u. plain kind.Space ∷ arg-token (arg (y .value)) ∷ tokens u) (sym e2) ∙ ap (λ u. plain kind.Space ∷ arg-token (arg (y .value)) ∷ u) (r .was);
       fit = and-true _ _ f (bound-by (same (y .value .kind) kind.End) slot more before (y .value .number) (map arg (z .value)) l f (r .fit));
-      after = r .after ∙ ap (λ u. left u (z .state .rest)) (q .after) ∙ ap (λ u. left u (z .state .rest)) (p .after)
+      after = r .after ∙ ap (λ u. left u (z .state .rest)) (q .after) ∙ ap (λ u. left u (z .state .rest)) (p .after);
     })
 
 -- the slots of every form
@@ -317,7 +317,7 @@ module _ (levels : ℕ) (ih : Induct levels) where
         past = f .past ∙ ap (λ u. u .past) (p .after);
         opened = f .opened ∙ ap (λ u. u .opened + (inside (f .tree) + 1)) (p .after);
         nodes = f .nodes ∙ ap (λ u. nodes-after u (f .tree)) ns;
-        few = f .few
+        few = f .few;
       }
 
   module _ (s : State) (f : Form) (xs : List Arg) (u : State) (hd : Head s f xs u) (n : ℕ) (t : State) where
@@ -341,7 +341,7 @@ module _ (levels : ℕ) (ih : Induct levels) where
           past = ap (λ v. v .past) (c .after-close) ∙ h-past;
           opened = ap (λ v. v .opened) (c .after-close) ∙ h-opened;
           nodes = ap (λ v. v .nodes) (c .after-close) ∙ ap (λ v. v ++ (entry f xs [] ∷ [])) h-nodes;
-          few = let e : t .opened ≡ s .opened + 1 = ap (λ v. v .opened) (c .after-close) ∙ h-opened in omega (arith, e, hd .lt)
+          few = let e : t .opened ≡ s .opened + 1 = ap (λ v. v .opened) (c .after-close) ∙ h-opened in omega (arith, e, hd .lt);
         }
 
     unary-read : arity f ≡ One → (a : ℕ) (v : State) → Operand levels u a v → closing (entry f xs (a ∷ [])) v ≡ done n t → Formula (suc levels) s n t
@@ -357,7 +357,7 @@ module _ (levels : ℕ) (ih : Induct levels) where
           past = ap (λ w. w .past) (c .after-close) ∙ o .past ∙ h-past;
           opened = ap (λ w. w .opened) (c .after-close) ∙ omega (arith, o .opened, h-opened);
           nodes = ap (λ w. w .nodes) (c .after-close) ∙ ap (λ w. w ++ (entry f xs (a ∷ []) ∷ [])) vn ∙ ap (λ w. nodes-after (s .nodes) (o .tree) ++ (entry f xs (w ∷ []) ∷ [])) an;
-          few = let e : t .opened ≡ v .opened = ap (λ x. x .opened) (c .after-close) in omega (arith, e, o .few)
+          few = let e : t .opened ≡ v .opened = ap (λ x. x .opened) (c .after-close) in omega (arith, e, o .few);
         }
 
     binary-read : arity f ≡ Two → (a : ℕ) (v : State) → Operand levels u a v → (b : ℕ) (w : State) → Operand levels v b w → closing (entry f xs (a ∷ b ∷ [])) w ≡ done n t → Formula (suc levels) s n t
@@ -375,7 +375,7 @@ module _ (levels : ℕ) (ih : Induct levels) where
           past = ap (λ x. x .past) (c .after-close) ∙ q .past ∙ o .past ∙ h-past;
           opened = ap (λ x. x .opened) (c .after-close) ∙ omega (arith, q .opened, o .opened, h-opened);
           nodes = ap (λ x. x .nodes) (c .after-close) ∙ ap (λ x. x ++ (entry f xs (a ∷ b ∷ []) ∷ [])) wn ∙ ap (λ x. nodes-after (nodes-after (s .nodes) (o .tree)) (q .tree) ++ (entry f xs (x ∷ b ∷ []) ∷ [])) an ∙ ap (λ x. nodes-after (nodes-after (s .nodes) (o .tree)) (q .tree) ++ (entry f xs ((length (s .nodes) + inside (o .tree)) ∷ x ∷ []) ∷ [])) bn;
-          few = let e : t .opened ≡ w .opened = ap (λ x. x .opened) (c .after-close) in omega (arith, e, q .few)
+          few = let e : t .opened ≡ w .opened = ap (λ x. x .opened) (c .after-close) in omega (arith, e, q .few);
         }
 
     by-arity : (k : Arity) → arity f ≡ k → (os : List ℕ) (v : State) → operands (formula levels) k u ≡ done os v → closing (entry f xs os) v ≡ done n t → Formula (suc levels) s n t

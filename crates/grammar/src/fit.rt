@@ -2,9 +2,9 @@
 ghost use mathlib.Core.Path.{_≡_};
 ghost use Rattle.grammar.specs.Reading.{within as in-range, rising as in-range-from, ranged as in-its-range, argument as fits-slot};
 use crate::fault::FaultKind;
+use crate::shape::Slot;
 use items::item::Item;
 use items::item::Kind;
-use crate::shape::Slot;
 
 fn within(low: i64, high: i64, item: Item) -> Result<Item, FaultKind>
     ensures { λ r. ⌜ r ≡ in-range low high item ⌝ }

@@ -2,16 +2,23 @@
 ghost use mathlib.Core.Path.{_≡_};
 ghost use Rattle.grammar.specs.Grammar.{slots as expected-slots, arity as expected-arity};
 use crate::shape::Arity;
-use items::item::Form;
 use crate::shape::Slot;
+use items::item::Form;
 
 const RELATION: Slot = Slot::Range(0, 15);
+
 const KEY: Slot = Slot::Range(0, 65_535);
+
 const VALUE: Slot = Slot::Range(-1_000_000_000, 1_000_000_000);
+
 const HIGH_VALUE: Slot = Slot::Upper(-1_000_000_000, 1_000_000_000);
+
 const COUNT: Slot = Slot::Range(0, 1_000_000);
+
 const HIGH_COUNT: Slot = Slot::Upper(0, 1_000_000);
+
 const FROM: Slot = Slot::Range(0, 1_000_000_000);
+
 const TO: Slot = Slot::UpperOrEnd(0, 1_000_000_000);
 
 /// The arguments of a form, in order. Cost: constant.
@@ -33,7 +40,14 @@ pub fn arity(form: Form) -> Arity
     ensures { λ r. ⌜ r ≡ expected-arity form ⌝ }
 {
     match form {
-        Form::Not | Form::Next | Form::AllNext | Form::Sometime | Form::Always | Form::Previous | Form::Once | Form::SoFar => Arity::One,
+        Form::Not
+        | Form::Next
+        | Form::AllNext
+        | Form::Sometime
+        | Form::Always
+        | Form::Previous
+        | Form::Once
+        | Form::SoFar => Arity::One,
         Form::And | Form::Or | Form::Implies | Form::Until | Form::Since => Arity::Two,
         _ => Arity::Zero,
     }

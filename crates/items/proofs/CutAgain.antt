@@ -33,7 +33,6 @@ use Rattle.items.proofs.Numerals.{most, digits, number-complete, signed-all, s
 use Rattle.items.proofs.Spelling.{Spelled, All-spelled, no-join}
 use Rattle.items.proofs.Runs.{alone}
 
-
 -- items that stand by themselves
 abbrev pub sep-kind : Kind → Bool
 sep-kind kind.Open = true

@@ -153,9 +153,15 @@ or-else-by None q f h = inr h
 
 form-sound : (w : List ℕ) (f : Form) → form-word w ≡ Some f → w ≡ word-text f
 form-sound w f h =
-    elim (or-else-by (look-up w query-words) _ f h) [ inl e ↦ look-up-sound w query-words f (refl, (refl, (refl, (refl, (refl, (refl, (refl, tt))))))) e | inr h2 ↦
-    elim (or-else-by (look-up w connective-words) _ f h2) [ inl e ↦ look-up-sound w connective-words f (refl, (refl, (refl, (refl, tt)))) e | inr h3 ↦
-    elim (or-else-by (look-up w future-words) _ f h3) [ inl e ↦ look-up-sound w future-words f (refl, (refl, (refl, (refl, (refl, tt))))) e | inr e ↦ look-up-sound w past-words f (refl, (refl, (refl, (refl, tt)))) e ] ] ]
+    elim (or-else-by (look-up w query-words) _ f h) [
+      | inl e ↦ look-up-sound w query-words f (refl, (refl, (refl, (refl, (refl, (refl, (refl, tt))))))) e
+      | inr h2 ↦
+          elim (or-else-by (look-up w connective-words) _ f h2) [
+            | inl e ↦ look-up-sound w connective-words f (refl, (refl, (refl, (refl, tt)))) e
+            | inr h3 ↦
+                elim (or-else-by (look-up w future-words) _ f h3) [ inl e ↦ look-up-sound w future-words f (refl, (refl, (refl, (refl, (refl, tt))))) e | inr e ↦ look-up-sound w past-words f (refl, (refl, (refl, (refl, tt)))) e ]
+          ]
+    ]
 
 word-by : (t u : Bool) (o : Option Form) (w : List ℕ) → sameBytes w (codes "rule") ≡ t → sameBytes w (codes "end") ≡ u → form-word w ≡ o → Spelled (token-of (cond t kind.Rule (cond u kind.End (form-kind o))) (pos 0)) → w ≡ token-text (token-of (cond t kind.Rule (cond u kind.End (form-kind o))) (pos 0))
 word-by true u o w p q r h = same-bytes w (codes "rule") p

@@ -73,16 +73,16 @@ abbrev pub past : Place → List ℕ → Place
 past p run = cond (eqb (first run) 10) (record { line = p .line + 1; byte = 1 }) (record { line = p .line; byte = p .byte + length run })
 
 abbrev pub query-words : List (List ℕ × Form)
-query-words = (codes "true", form.True) ∷  (codes "some", form.Some) ∷  (codes "every", form.Every) ∷  (codes "fact", form.Fact) ∷  (codes "number", form.Number) ∷  (codes "refer", form.Refer) ∷  (codes "level", form.Level) ∷ []
+query-words = (codes "true", form.True) ∷ (codes "some", form.Some) ∷ (codes "every", form.Every) ∷ (codes "fact", form.Fact) ∷ (codes "number", form.Number) ∷ (codes "refer", form.Refer) ∷ (codes "level", form.Level) ∷ []
 
 abbrev pub connective-words : List (List ℕ × Form)
-connective-words = (codes "not", form.Not) ∷  (codes "and", form.And) ∷  (codes "or", form.Or) ∷  (codes "implies", form.Implies) ∷ []
+connective-words = (codes "not", form.Not) ∷ (codes "and", form.And) ∷ (codes "or", form.Or) ∷ (codes "implies", form.Implies) ∷ []
 
 abbrev pub future-words : List (List ℕ × Form)
-future-words = (codes "next", form.Next) ∷  (codes "allnext", form.AllNext) ∷  (codes "sometime", form.Sometime) ∷  (codes "always", form.Always) ∷  (codes "until", form.Until) ∷ []
+future-words = (codes "next", form.Next) ∷ (codes "allnext", form.AllNext) ∷ (codes "sometime", form.Sometime) ∷ (codes "always", form.Always) ∷ (codes "until", form.Until) ∷ []
 
 abbrev pub past-words : List (List ℕ × Form)
-past-words = (codes "previous", form.Previous) ∷  (codes "once", form.Once) ∷  (codes "sofar", form.SoFar) ∷  (codes "since", form.Since) ∷ []
+past-words = (codes "previous", form.Previous) ∷ (codes "once", form.Once) ∷ (codes "sofar", form.SoFar) ∷ (codes "since", form.Since) ∷ []
 
 abbrev pub look-up : List ℕ → List (List ℕ × Form) → Option Form
 look-up w [] = None

@@ -24,7 +24,6 @@ fn value(digits: &[u8]) -> Option<u32>
 }
 
 fn natural(digits: &[u8]) -> Option<u32>
-
     ensures { λ r. ⌜ r ≡ spelt-natural (now (digits .entry)) ⌝ }
 {
     let [first, rest @ ..] = digits else {

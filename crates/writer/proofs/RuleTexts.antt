@@ -1,7 +1,7 @@
 -- The text of rules, put one after another.
 use mathlib.Core.Path.{_≡_, refl, sym, ap, subst, _∙_}
 use mathlib.Core.Bool.{Bool, true, _&&_}
-use mathlib.Core.List.{List, [], _∷_, _++_, append-assoc, append-nil}
+use mathlib.Core.List.{List, [], _∷_, _++_, map, append-assoc, append-nil}
 use Prim.Native.Nat.{ℕ, zero, suc, _+_, _<_, _≤_}
 use native.Mathlib.Omega.{arith}
 use native.Mathlib.Numerals.{add-one}
@@ -39,3 +39,14 @@ more-puts ts rs i d lt h p = puts-same (one-more ts rs i d lt ∙ ap (λ k. rule
 
 pub all-puts : {before out : List ℕ} {at : ℕ} (ts : List (List ℕ)) (rs : List Rule) (i : ℕ) → length rs ≤ i → Sofar ts rs before i out at → Puts before 0 out at (rules-text ts rs)
 all-puts ts rs i le h = puts-same (ap (rules-text ts) (take-all i rs le)) h
+
+-- the text of the rule at a place
+pub text-of-rule : (f : Rule → List ℕ) (rs : List Rule) (i : ℕ) (d : Rule) → i < length rs → getD (map f rs) i [] ≡ f (getD rs i d)
+text-of-rule f [] i d lt = absurd (omega arith)
+text-of-rule f (r ∷ rs) zero d lt = refl
+text-of-rule f (r ∷ rs) (suc i) d lt = text-of-rule f rs i d (omega arith)
+
+pub text-of-none : (f : Rule → List ℕ) (rs : List Rule) (i : ℕ) → length rs ≤ i → getD (map f rs) i [] ≡ []
+text-of-none f [] i le = refl
+text-of-none f (r ∷ rs) zero le = absurd (omega arith)
+text-of-none f (r ∷ rs) (suc i) le = text-of-none f rs i (omega arith)

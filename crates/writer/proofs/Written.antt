@@ -6,6 +6,7 @@ use Prim.Native.Nat.{ℕ, _+_, _-_, _^_, _≤_, _<_, min}
 use native.Mathlib.Omega.{arith}
 use lib.Dec.{leb}
 use lib.ListN.{length, take, drop, take-append-drop}
+use lib.Seq.{take-all, take-at}
 use Rattle.std.proofs.shelf.Tests.{cond-true, le-leb}
 use Rattle.std.specs.declared.result.Result.{Result}
 use Rattle.std.specs.declared.result.Result.the-variants.{Ok, Err}
@@ -31,3 +32,11 @@ module _ {text before after : List ℕ} {n counted : ℕ} (count : counted ≡ m
   written-buffer =
       let whole : take n after ++ drop n after ≡ text ++ drop n before = ap (λ x. x ++ drop n after) (put .front room) ∙ ap (λ x. text ++ x) (put .back room) in
       sym (take-append-drop n after) ∙ whole ∙ ap (λ k. text ++ drop k before) is-long ∙ sym (cond-true _ _ _ test)
+
+-- a text that fills a buffer of its length
+pub filled : {text before after : List ℕ} {n counted : ℕ} (rest : List ℕ) (long : ℕ) → counted ≡ min (0 + length text) (2 ^ 64 - 1) → long ≡ counted → length before ≡ long → long < 2 ^ 64 - 1 → Puts before 0 after n text → take long (after ++ rest) ≡ text
+filled {text} {before} {after} {n} rest long count is same short put =
+    let room : 0 + length text ≤ length before = omega arith in
+    let past : n ≡ 0 + length text = put .exact room in
+    let all : length after ≡ long = put .long ∙ same in
+    take-at after rest long all ∙ sym (take-all n after (omega arith)) ∙ put .front room

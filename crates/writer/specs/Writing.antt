@@ -10,13 +10,17 @@ use Rattle.std.specs.declared.result.Result.the-variants.{Ok, Err}
 use Rattle.rules.specs.declared.table.Table.{Table}
 use Rattle.grammar.specs.Entries.{entry-of}
 use Rattle.rules.specs.Tables.{nodes-of, rules-of}
-use Rattle.grammar.specs.TableText.{table-text}
+use Rattle.grammar.specs.TableText.{rule-text, table-text, texts}
 use Rattle.writer.specs.declared.fault.WriteFault.{WriteFault}
 use Rattle.writer.specs.declared.fault.WriteFault.the-variants.{TooShort}
 
 -- a table's text
 abbrev pub text-of : Table → List ℕ
 text-of t = table-text (map entry-of (nodes-of t)) (rules-of t)
+
+-- the texts of its rules
+abbrev pub rule-texts : Table → List (List ℕ)
+rule-texts t = map (rule-text (texts [] (map entry-of (nodes-of t)))) (rules-of t)
 
 -- the length of a text that the buffer has room for, else the refusal
 abbrev pub answer : List ℕ → List ℕ → Result ℕ WriteFault

@@ -57,7 +57,13 @@ fn put_query(out: &mut [u8], at: usize, query: Query) -> usize
         Query::Some(r, l, h) => put_three(out, at, Some(r as i64), Some(l as i64), Some(h as i64)),
         Query::Every(r, l, h) => put_three(out, at, Some(r as i64), Some(l as i64), Some(h as i64)),
         Query::Fact(r, k, v) => put_three(out, at, Some(r as i64), Some(k as i64), Some(v as i64)),
-        Query::Number(r, p, q) => put_three(out, at, Some(r as i64), Some(p as i64), Some(q as i64)),
+        Query::Number(r, p, q) => put_three(
+            out,
+            at,
+            Some(r as i64),
+            Some(p as i64),
+            Some(q as i64),
+        ),
         Query::Refer(r, s) | Query::Level(r, s) => put_two(out, at, Some(r as i64), Some(s as i64)),
     }
 }
@@ -67,7 +73,8 @@ pub(crate) fn put_arguments(out: &mut [u8], at: usize, node: Node) -> usize
 {
     match node {
         Node::Query(query) => put_query(out, at, query),
-        Node::Next(w, _) | Node::AllNext(w, _) | Node::Sometime(w, _) | Node::Always(w, _) => put_window(out, at, w),
+        Node::Next(w, _) | Node::AllNext(w, _) | Node::Sometime(w, _) | Node::Always(w, _) =>
+            put_window(out, at, w),
         Node::Previous(w, _) | Node::Once(w, _) | Node::SoFar(w, _) => put_window(out, at, w),
         Node::Until(w, _, _) | Node::Since(w, _, _) => put_window(out, at, w),
         _ => put(out, at, b""),

@@ -4,5 +4,6 @@ pub mod fault;
 mod nodes;
 mod parts;
 mod place;
+pub mod rule;
 mod rules;
 pub mod write;

@@ -54,7 +54,8 @@ pub(crate) fn operands_of(node: Node) -> Operands
     match node {
         Node::Not(a) => Operands::One(a),
         Node::And(a, b) | Node::Or(a, b) | Node::Implies(a, b) => Operands::Two(a, b),
-        Node::Next(_, a) | Node::AllNext(_, a) | Node::Sometime(_, a) | Node::Always(_, a) => Operands::One(a),
+        Node::Next(_, a) | Node::AllNext(_, a) | Node::Sometime(_, a) | Node::Always(_, a) =>
+            Operands::One(a),
         Node::Previous(_, a) | Node::Once(_, a) | Node::SoFar(_, a) => Operands::One(a),
         Node::Until(_, a, b) | Node::Since(_, a, b) => Operands::Two(a, b),
         _ => Operands::Zero,

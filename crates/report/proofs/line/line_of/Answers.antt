@@ -15,7 +15,8 @@ loop-left-again c =
 pub returns : need.returns
 returns c =
     let here : first-line (c .loop-left .rest .now) ≡ line-after (c .loop-left .left - 1) (c .loop-left .rest .now) =
-        elim (c .loop-left-test .came) [
-          then-loop-left-test·else-not-is-empty w ↦ let none : length (c .loop-left .rest .now) ≡ 0 = search needs in sym (line-none (c .loop-left .left - 1) (c .loop-left .rest .now) none)
-        | else-loop-left-test w ↦ sym (line-here (c .loop-left .left) (c .loop-left .rest .now) (w .loop-left-test .left)) ] in
+    elim (c .loop-left-test .came) [
+      | then-loop-left-test·else-not-is-empty w ↦ let none : length (c .loop-left .rest .now) ≡ 0 = search needs in sym (line-none (c .loop-left .left - 1) (c .loop-left .rest .now) none)
+      | else-loop-left-test w ↦ sym (line-here (c .loop-left .left) (c .loop-left .rest .now) (w .loop-left-test .left))
+    ] in
     c .first-line .ensures ∙ here ∙ c .loop-left .inv
