@@ -156,10 +156,10 @@ bound-by true slot more before y xs l f h = end-then slot more before y (pos 0) 
 bound-by false slot more before y xs l f h = h
 
 -- arguments that are read
-record Arguments (ss : List Slot) (before : ℤ) (s : State) (its : List Item) (t : State) : Type 0 where
+pub record Arguments (ss : List Slot) (before : ℤ) (s : State) (its : List Item) (t : State) : Type 0 where
   was : tokens (s .rest) ≡ arg-tokens (map arg its) (tokens (t .rest))
   fit : args-fit ss before (map arg its) ≡ true
-  after : t ≡ left s (t .rest)
+  pub after : t ≡ left s (t .rest)
 
 pub and-true : (a b : Bool) → a ≡ true → b ≡ true → a && b ≡ true
 and-true a b p q = rw (p, q)
@@ -170,7 +170,7 @@ args-same ss before s a b v t e h =
     let q : v ≡ t = cc in
     subst (λ x. Arguments ss before s x t) p (subst (λ x. Arguments ss before s a x) q h)
 
-args-read : (ss : List Slot) → End-last ss → (before : ℤ) (s : State) (its : List Item) (t : State) → arguments ss before s ≡ done its t → Arguments ss before s its t
+pub args-read : (ss : List Slot) → End-last ss → (before : ℤ) (s : State) (its : List Item) (t : State) → arguments ss before s ≡ done its t → Arguments ss before s its t
 args-read [] l before s its t h =
     args-same [] before s [] its s t h (record { was = refl; fit = refl; after = refl })
 args-read (slot ∷ more) l before s its t h =
@@ -231,17 +231,17 @@ length-after ns (unary f xs a) = simp length-append (omega (arith, length-after 
 length-after ns (binary f xs a b) = simp length-append (omega (arith, length-after ns a, length-after (nodes-after ns a) b))
 
 -- the opening bracket and the word
-record Opened (s : State) (f : Form) (t : State) : Type 0 where
+pub record Opened (s : State) (f : Form) (t : State) : Type 0 where
   rest : List Item
   was : tokens (s .rest) ≡ plain kind.Open ∷ plain (kind.Form f) ∷ tokens rest
-  after-head : t ≡ counted (left s rest)
+  pub after-head : t ≡ counted (left s rest)
   lt : s .opened < 64
 
 opened-by : (b : Bool) (s t : State) (f : Form) (u : State) (e : Fault) → cond b (next word (counted t)) (stop e) ≡ done f u → (b ≡ true) × (next word (counted t) ≡ done f u)
 opened-by true s t f u e h = (refl, h)
 opened-by false s t f u e h = absurd (stopped h)
 
-opens : (levels : ℕ) (s : State) (f : Form) (t : State) → opening levels s ≡ done f t → Opened s f t
+pub opens : (levels : ℕ) (s : State) (f : Form) (t : State) → opening levels s ≡ done f t → Opened s f t
 opens levels s f t h =
     let x = both (next (is kind.Open) s) _ f t h in
     let p = passed kind.Open is-open s (x .value) (x .state) (x .first) in
