@@ -1,16 +1,12 @@
 -- Records whose queries are answered by rows of bits.
 use mathlib.Core.Bool.{Bool, cond}
 use mathlib.Core.List.{List}
-use Prim.Native.Nat.{ℕ, _/_, _%_, _^_}
-use lib.Dec.{eqb}
+use Prim.Native.Nat.{ℕ}
 use lib.ListN.{getD}
+use Rattle.syntax.specs.Rows.{bit-of}
 use Rattle.truth.specs.Kinds.{Kind}
 use Rattle.eval.specs.Truth.{Record}
 use Rattle.eval.specs.Stamps.{record-of}
-
--- bit m of a row, from the lowest
-abbrev pub bit-of : ℕ → ℕ → Bool
-bit-of row m = eqb (row / 2 ^ m % 2) 1
 
 module _ {K : Type 0} (k : Kind K) where
   -- a plain truth value in a kind

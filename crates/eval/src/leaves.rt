@@ -3,7 +3,8 @@ ghost use mathlib.Core.Path.{_≡_};
 ghost use denote.Ref.{now};
 ghost use Prim.Native.Nat.{ℕ};
 ghost use lib.ListN.{length, getD};
-ghost use Rattle.eval.specs.Rows.{bit-of, truth-of, row-leaf};
+ghost use Rattle.syntax.specs.Rows.{bit-of};
+ghost use Rattle.eval.specs.Rows.{truth-of, row-leaf};
 use truth::Truth;
 
 /// A source of the values of query nodes at states.

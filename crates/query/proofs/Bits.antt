@@ -14,7 +14,8 @@ use Rattle.syntax.specs.declared.Query.{Query}
 use Rattle.syntax.specs.declared.Node.{Node}
 use Rattle.syntax.specs.declared.Node.the-variants as node
 use Rattle.query.specs.Queries.{node-answer}
-use Rattle.query.specs.Rows.{bit-of, row-of, Answers}
+use Rattle.syntax.specs.Rows.{bit-of}
+use Rattle.query.specs.Rows.{row-of, Answers}
 
 low-bit : (b : Bool) (r : ℕ) → eqb ((cond b 1 0 + 2 * r) / 1 % 2) 1 ≡ b
 low-bit true r = let e : (1 + 2 * r) / 1 % 2 ≡ 1 = omega arith in ap (λ n. eqb n 1) e

@@ -2,18 +2,14 @@
 use mathlib.Core.Path.{_≡_}
 use mathlib.Core.Bool.{Bool, true, false, cond}
 use mathlib.Core.List.{List, [], _∷_}
-use Prim.Native.Nat.{ℕ, _+_, _*_, _/_, _%_, _^_, _<_}
-use lib.Dec.{eqb}
+use Prim.Native.Nat.{ℕ, _+_, _*_, _<_}
 use lib.ListN.{length, getD}
 use Rattle.store.specs.declared.facts.Fact.{Fact}
+use Rattle.syntax.specs.Rows.{bit-of}
 use Rattle.syntax.specs.declared.Query.{Query}
 use Rattle.syntax.specs.declared.Node.{Node}
 use Rattle.syntax.specs.declared.Node.the-variants as node
 use Rattle.query.specs.Queries.{answer, node-answer}
-
--- whether bit m of a row, from the lowest, is set
-abbrev pub bit-of : ℕ → ℕ → Bool
-bit-of row m = eqb (row / 2 ^ m % 2) 1
 
 -- the row whose bit m is what node m answers
 abbrev pub row-of : List Node → List Fact → ℕ

@@ -39,9 +39,7 @@ pub(crate) fn values(items: &[Item]) -> (u8, i32, i32)
     requires { ⌜ Fitting value-slots (now items) ⌝ }
     ensures { λ r. ⌜ map arg (now (items .entry)) ≡ whole (r .0) ∷ Some (r .1) ∷ Some (r .2) ∷ [] ⌝ }
 {
-    let [r, l, h] = items else {
-        unreachable()
-    };
+    let [r, l, h] = items else { unreachable() };
     (relation(*r), value(*l), value(*h))
 }
 
@@ -60,9 +58,7 @@ pub(crate) fn window(items: &[Item]) -> Window
     requires { ⌜ Fitting window-slots (now items) ⌝ }
     ensures { λ r. ⌜ map arg (now (items .entry)) ≡ window-args r ⌝ }
 {
-    let [a, b] = items else {
-        unreachable()
-    };
+    let [a, b] = items else { unreachable() };
     Window {
         low: distance(*a),
         high: bound(*b),
@@ -88,9 +84,7 @@ pub(crate) fn fact(items: &[Item]) -> (u8, u32, i32)
     requires { ⌜ Fitting fact-slots (now items) ⌝ }
     ensures { λ r. ⌜ map arg (now (items .entry)) ≡ whole (r .0) ∷ whole (r .1) ∷ Some (r .2) ∷ [] ⌝ }
 {
-    let [r, k, v] = items else {
-        unreachable()
-    };
+    let [r, k, v] = items else { unreachable() };
     (relation(*r), key(*k), value(*v))
 }
 
@@ -99,9 +93,7 @@ pub(crate) fn counts(items: &[Item]) -> (u8, u32, u32)
     requires { ⌜ Fitting count-slots (now items) ⌝ }
     ensures { λ r. ⌜ map arg (now (items .entry)) ≡ whole (r .0) ∷ whole (r .1) ∷ whole (r .2) ∷ [] ⌝ }
 {
-    let [r, p, q] = items else {
-        unreachable()
-    };
+    let [r, p, q] = items else { unreachable() };
     (relation(*r), count(*p), count(*q))
 }
 
@@ -110,9 +102,7 @@ pub(crate) fn relations(items: &[Item]) -> (u8, u8)
     requires { ⌜ Fitting relation-slots (now items) ⌝ }
     ensures { λ r. ⌜ map arg (now (items .entry)) ≡ whole (r .0) ∷ whole (r .1) ∷ [] ⌝ }
 {
-    let [r, s] = items else {
-        unreachable()
-    };
+    let [r, s] = items else { unreachable() };
     (relation(*r), relation(*s))
 }
 
@@ -120,9 +110,7 @@ pub(crate) fn one(operands: &[usize]) -> usize
     requires { ⌜ Sized One (now operands) ⌝ }
     ensures { λ r. ⌜ now (operands .entry) ≡ r ∷ [] ⌝ }
 {
-    let [a] = operands else {
-        unreachable()
-    };
+    let [a] = operands else { unreachable() };
     *a
 }
 
@@ -130,8 +118,6 @@ pub(crate) fn two(operands: &[usize]) -> (usize, usize)
     requires { ⌜ Sized Two (now operands) ⌝ }
     ensures { λ r. ⌜ now (operands .entry) ≡ r .0 ∷ r .1 ∷ [] ⌝ }
 {
-    let [a, b] = operands else {
-        unreachable()
-    };
+    let [a, b] = operands else { unreachable() };
     (*a, *b)
 }

@@ -5,7 +5,7 @@ use native.Mathlib.Omega.{arith}
 use native.Mathlib.Nat.{div-eq-of-lt}
 use lib.Dec.{eqb}
 use lib.Pow.{pow-mono}
-use Rattle.eval.specs.Rows.{bit-of}
+use Rattle.syntax.specs.Rows.{bit-of}
 use Rattle.eval.proofs.leaves.is_set.Needs as need
 
 -- a row of 64 bits has no bit from 64 on
