@@ -4,3 +4,7 @@ pub mod Fits
 pub mod Slots
 pub mod Forms
 pub mod Formulas
+pub mod RuleLines
+pub mod RuleLoop
+pub mod Whole
+pub mod TableFacts

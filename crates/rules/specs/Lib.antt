@@ -1,3 +1,5 @@
 pub mod Fitting
 pub mod Reads
 pub mod Tables
+pub mod Refusals
+pub mod Reaches

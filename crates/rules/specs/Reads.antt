@@ -1,7 +1,6 @@
 -- How the reader's answers follow the reading of items.
 use mathlib.Core.Path.{_≡_}
 use mathlib.Core.List.{List, map}
-use Prim.Native.Nat.{_≤_}
 use lib.ListN.{length, take}
 use Rattle.std.specs.declared.result.Result.{Result}
 use Rattle.std.specs.declared.result.Result.the-variants.{Ok, Err}
@@ -27,3 +26,8 @@ Reads (Err f) read after = read ≡ stop f
 abbrev pub ReadsForm : List Slot → Result (List Item) ReadFault → Outcome (List Item) → State → Type 0
 ReadsForm slots (Ok f) read after = (read ≡ done (take (length slots) f) after) × Fitting slots (take (length slots) f) × (length f ≡ 3)
 ReadsForm slots (Err f) read after = read ≡ stop f
+
+-- the same, where the answer stands for what is read
+abbrev pub ReadsAs : {V W : Type 0} → (V → W) → Result V ReadFault → Outcome W → State → Type 0
+ReadsAs f (Ok v) read after = read ≡ done (f v) after
+ReadsAs f (Err e) read after = read ≡ stop e

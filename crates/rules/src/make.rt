@@ -121,3 +121,10 @@ pub(crate) fn two(operands: &[usize]) -> (usize, usize)
     let [a, b] = operands else { unreachable() };
     (*a, *b)
 }
+
+pub(crate) fn rule_number(item: Item) -> u8
+    requires { ⌜ Numeral (pos 1) (pos 99) item ⌝ }
+    ensures { λ r. ⌜ item .number ≡ pos r ⌝ }
+{
+    item.number as u8
+}

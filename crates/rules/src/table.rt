@@ -1,15 +1,17 @@
 //! A table of rules.
 ghost use mathlib.Core.Bool.{true};
-ghost use mathlib.Core.List.{[]};
+ghost use mathlib.Core.List.{map};
 ghost use mathlib.Core.Path.{_≡_};
-ghost use Prim.Native.Nat.{_<_, _≤_};
-ghost use lib.ListN.{length};
-ghost use Rattle.std.specs.Of.Vec.{vec-items, vec-len};
+ghost use Prim.Native.Nat.{_≤_};
+ghost use Rattle.std.specs.Of.Vec.{vec-items, vec-len, vec-cap};
 ghost use Rattle.syntax.specs.Nodes.{Ordered, rooted};
+ghost use Rattle.grammar.specs.Entries.{entry-of};
+ghost use Rattle.grammar.specs.Formed.{Formed};
 use syntax::Node;
 use syntax::Rule;
 
-/// At most 64 nodes, each after its operands, and at most 16 rules that have one of them.
+/// At most 64 nodes, each after its operands, and at most 16 rules that have one of them; both are those of well-formed rules.
+/// A table has room for as many as it may ever hold.
 #[derive(Drop)]
 pub struct Table {
     pub(crate) nodes: Vec<Node>,
@@ -18,4 +20,7 @@ pub struct Table {
     ghost short: { vec-len rules ≤ 16 },
     ghost ordered: { Ordered (vec-items nodes) },
     ghost roots: { rooted (vec-len nodes) (vec-items rules) ≡ true },
+    ghost formed: { ∥ Formed (map entry-of (vec-items nodes)) (vec-items rules) ∥₁ },
+    ghost wide: { 64 ≤ vec-cap nodes },
+    ghost long: { 16 ≤ vec-cap rules },
 }
