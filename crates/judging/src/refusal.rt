@@ -1,0 +1,10 @@
+//! A refused record.
+use crate::workspace::Workspace;
+use rules::fault::JudgeFault;
+
+/// Why a record is not judged, with the workspace that was handed in.
+#[derive(Drop)]
+pub struct Refusal {
+    pub fault: JudgeFault,
+    pub workspace: Workspace,
+}
