@@ -1,8 +1,8 @@
 // Holds both stores to a set kept the plainest way, on random calls, and prints what was compared.
 mod full;
-mod generator;
 mod model;
 mod runs;
+mod slot;
 mod steps;
 mod tally;
 

@@ -1,7 +1,8 @@
 // The comparisons: each store alone, then both side by side.
 use crate::full;
-use crate::generator::Generator;
 use crate::model::Model;
+use crate::slot::SlotStore;
+use crate::slot::SlotStoreStore;
 use crate::steps;
 use crate::tally::Tally;
 use crate::tally::TallyDisplay;
@@ -9,6 +10,7 @@ use gridstore::GridStore;
 use gridstore::GridStoreStore;
 use liststore::ListStore;
 use liststore::ListStoreStore;
+use random::Generator;
 use std::error::AnyError;
 use store::Store;
 
@@ -84,6 +86,14 @@ fn list_alone(rt: &LibcRuntime, places: usize, relations: usize) -> Result<(), A
     Ok(())
 }
 
+fn slot_alone(rt: &LibcRuntime) -> Result<(), AnyError> {
+    let mut slot = SlotStore::new();
+    let mut model = Model::of_list(rt.alloc(), 1);
+    let tally = alone(&mut slot, &mut model, 2)?;
+    println!(rt, "slot: {tally}")?;
+    Ok(())
+}
+
 fn grid_alone(rt: &LibcRuntime) -> Result<(), AnyError> {
     let mut grid = GridStore::new();
     let mut model = Model::of_grid(rt.alloc());
@@ -105,6 +115,7 @@ pub fn run_all(rt: &LibcRuntime) -> Result<(), AnyError> {
     list_alone(rt, 0, 18)?;
     list_alone(rt, 1, 2)?;
     list_alone(rt, 256, 18)?;
+    slot_alone(rt)?;
     grid_alone(rt)?;
     both(rt)?;
     full::run(rt)

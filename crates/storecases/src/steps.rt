@@ -1,6 +1,6 @@
 // One call of a store, its answer in plain numbers, and the answers of the questions after it.
-use crate::generator::Generator;
 use crate::model::Model;
+use random::Generator;
 use std::alloc::AllocError;
 use store::Fact;
 use store::Store;
