@@ -1,5 +1,5 @@
-// Measures the calls of the package. What it writes to standard output is the work done, the same at every run;
-// times, in microseconds, go to standard error.
+//! Measures the calls of the package. What it writes to standard output is the work done, the same at every run;
+//! times, in microseconds, go to standard error.
 mod measures;
 mod stores;
 

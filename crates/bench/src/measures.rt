@@ -1,4 +1,4 @@
-// Each measurement: the work, a line about it, and its time.
+//! Each measurement: the work, a line about it, and its time.
 use crate::stores;
 use crate::stores::Work;
 use gridstore::GridStore;

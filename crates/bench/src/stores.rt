@@ -1,9 +1,9 @@
-// Puts and drops on each store.
+//! Puts and drops on each store.
 use random::Generator;
 use store::Fact;
 use store::Store;
 
-// What was done: how often the set changed, and how many facts it has at the end.
+/// What was done: how often the set changed, and how many facts it has at the end.
 #[derive(Clone, Copy)]
 pub struct Work {
     pub changes: u32,
@@ -21,7 +21,7 @@ fn random_fact(generator: &mut Generator, keys: usize, values: usize) -> Fact {
     }
 }
 
-// Two puts for each drop, of random facts with keys and values below the bounds.
+/// Two puts for each drop, of random facts with keys and values below the bounds.
 pub fn puts_and_drops<S: Store>(store: &mut S, steps: u32, keys: usize, values: usize) -> Work {
     let mut generator = Generator::new(1);
     let mut changes: u32 = 0;

@@ -1,4 +1,4 @@
-// A small generator of numbers for tests and measurements, the same at every run.
+//! A small generator of numbers for tests and measurements, the same at every run.
 ghost use mathlib.Core.Path.{_≡_};
 ghost use Rattle.random.specs.Sequence.{next-state, drawn};
 
@@ -14,7 +14,7 @@ impl Generator {
         Generator { state: seed }
     }
 
-    // A number below the bound, or 0 where the bound is 0. A linear congruence, of which the high bits are used.
+    /// A number below the bound, or 0 where the bound is 0. A linear congruence, of which the high bits are used.
     pub fn below(&mut self, bound: usize) -> usize
         ensures answer { λ r. ⌜ r ≡ drawn (now (self .entry) .state) bound ⌝ }
         ensures after { λ _. ⌜ now (self .exit) .state ≡ next-state (now (self .entry) .state) ⌝ }

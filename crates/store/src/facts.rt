@@ -1,9 +1,9 @@
-// One fact: a relation, a key and a value. Each call here takes constant time.
+//! One fact: a relation, a key and a value. Each call here takes constant time.
 ghost use mathlib.Core.Path.{_≡_};
 ghost use Rattle.store.specs.Facts.{before, same, in-range, least-of, past, value-in, Strict-total-order, Equality};
 
-// A fact in range has a relation from 0 to 15, a key from 0 to 65,535 and a value from -1,000,000,000 to
-// 1,000,000,000. The types are wider, so that a call can be asked about a fact that is out of range.
+/// A fact in range has a relation from 0 to 15, a key from 0 to 65,535 and a value from -1,000,000,000 to
+/// 1,000,000,000. The types are wider, so that a call can be asked about a fact that is out of range.
 #[derive(Clone, Copy)]
 pub struct Fact {
     pub relation: u8,
@@ -11,7 +11,7 @@ pub struct Fact {
     pub value: i32,
 }
 
-// Whether `a` comes before `b`: by relation, then by key, then by value.
+/// Whether `a` comes before `b`: by relation, then by key, then by value.
 pub fn is_before(a: Fact, b: Fact) -> bool
     ensures answer { λ r. ⌜ r ≡ before a b ⌝ }
     ensures order { λ _. ⌜ Strict-total-order before ⌝ }
@@ -45,7 +45,7 @@ pub fn is_in_range(a: Fact) -> bool
 }
 
 impl Fact {
-    // Where a walk through a relation begins.
+    /// Where a walk through a relation begins.
     pub fn least_of(relation: u8) -> Fact
         ensures { λ r. ⌜ r ≡ least-of relation ⌝ }
     {
@@ -56,7 +56,7 @@ impl Fact {
         }
     }
 
-    // Where a walk goes on after this fact: the next value, or this one where the type has no greater.
+    /// Where a walk goes on after this fact: the next value, or this one where the type has no greater.
     pub fn past(self) -> Fact
         ensures { λ r. ⌜ r ≡ past self ⌝ }
     {

@@ -1,7 +1,7 @@
-// Facts, sets of facts, and the interface behind which a store keeps one.
-//
-// Sessions and queries are written against the trait `Store` alone. The crates `liststore` and `gridstore` have
-// one store each.
+//! Facts, sets of facts, and the interface behind which a store keeps one.
+//!
+//! Sessions and queries are written against the trait `Store` alone. The crates `liststore` and `gridstore` have
+//! one store each.
 pub mod by_members;
 mod facts;
 mod stores;

@@ -1,4 +1,4 @@
-// A grid with every bit set, and a list store with every place used.
+//! A grid with every bit set, and a list store with every place used.
 use gridstore::GridStore;
 use gridstore::GridStoreStore;
 use liststore::ListStore;
@@ -23,7 +23,7 @@ fn fact_of(relation: u8, key: u32, value: i32) -> Fact {
     }
 }
 
-// Puts each fact that a grid takes, and answers how often the answer's number was `number`.
+/// Puts each fact that a grid takes, and answers how often the answer's number was `number`.
 fn put_each<S: Store>(store: &mut S, number: u8) -> u32 {
     let mut times: u32 = 0;
     for relation in 0..16 {
@@ -38,7 +38,7 @@ fn put_each<S: Store>(store: &mut S, number: u8) -> u32 {
     times
 }
 
-// Walks from each fact that a grid takes, and answers how often the walk met that fact.
+/// Walks from each fact that a grid takes, and answers how often the walk met that fact.
 fn meet_each<S: Store>(store: &S) -> u32 {
     let mut times: u32 = 0;
     for relation in 0..16 {
@@ -55,7 +55,7 @@ fn meet_each<S: Store>(store: &S) -> u32 {
     times
 }
 
-// Sets every bit.
+/// Sets every bit.
 fn fill<S: Store>(rt: &LibcRuntime, name: &str, store: &mut S) -> Result<(), AnyError> {
     let added = put_each(store, 1);
     let count = store.count();
@@ -68,7 +68,7 @@ fn fill<S: Store>(rt: &LibcRuntime, name: &str, store: &mut S) -> Result<(), Any
     Ok(())
 }
 
-// Puts facts that a full store has, and facts beside them that it may not take.
+/// Puts facts that a full store has, and facts beside them that it may not take.
 fn probe<S: Store>(rt: &LibcRuntime, name: &str, store: &mut S) -> Result<(), AnyError> {
     let last = put_number(store, fact_of(15, 63, 63));
     let beyond = put_number(store, fact_of(15, 64, 63));
@@ -80,7 +80,7 @@ fn probe<S: Store>(rt: &LibcRuntime, name: &str, store: &mut S) -> Result<(), An
     Ok(())
 }
 
-// Makes one place free and fills it again.
+/// Makes one place free and fills it again.
 fn refill<S: Store>(rt: &LibcRuntime, name: &str, store: &mut S) -> Result<(), AnyError> {
     let dropped = store.drop_fact(fact_of(7, 31, 32));
     let again = put_number(store, fact_of(7, 31, 32));

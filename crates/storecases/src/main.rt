@@ -1,4 +1,4 @@
-// Holds both stores to a set kept the plainest way, on random calls, and prints what was compared.
+//! Holds both stores to a set kept the plainest way, on random calls, and prints what was compared.
 mod full;
 mod model;
 mod runs;

@@ -1,4 +1,4 @@
-// A set of facts kept the plainest way, to hold the stores to: facts in no order, looked through one by one.
+//! A set of facts kept the plainest way, to hold the stores to: facts in no order, looked through one by one.
 use std::alloc::AllocError;
 use std::alloc::Global;
 use store::Fact;
@@ -21,7 +21,7 @@ fn earlier(a: Fact, b: Fact) -> bool {
 }
 
 impl Model {
-    // A set with the range and the room of a list store.
+    /// A set with the range and the room of a list store.
     pub fn of_list(heap: Global, places: usize) -> Model {
         Model {
             members: Vec::new(heap),
@@ -32,7 +32,7 @@ impl Model {
         }
     }
 
-    // A set with the range and the room of a grid store.
+    /// A set with the range and the room of a grid store.
     pub fn of_grid(heap: Global) -> Model {
         Model {
             members: Vec::new(heap),
@@ -71,7 +71,7 @@ impl Model {
         self.index_of(fact).is_some()
     }
 
-    // The answer's number: 1 or 0, or the number of a refusal.
+    /// The answer's number: 1 or 0, or the number of a refusal.
     pub fn put(&mut self, fact: Fact) -> Result<u8, AllocError> {
         if !self.takes(fact) {
             return Ok(31);

@@ -1,4 +1,4 @@
-// The comparisons: each store alone, then both side by side.
+//! The comparisons: each store alone, then both side by side.
 use crate::full;
 use crate::model::Model;
 use crate::slot::SlotStore;
@@ -16,7 +16,7 @@ use store::Store;
 
 const STEPS: u32 = 20_000;
 
-// In and out of range, and at the edges of both.
+/// In and out of range, and at the edges of both.
 const KEYS: [u32; 9] = [0, 1, 62, 63, 64, 65, 65_535, 65_536, 4_294_967_295];
 
 const VALUES: [i32; 14] = [
@@ -36,12 +36,12 @@ const VALUES: [i32; 14] = [
     2_147_483_647,
 ];
 
-// What both stores take.
+/// What both stores take.
 const SHARED_KEYS: [u32; 5] = [0, 1, 31, 62, 63];
 
 const SHARED_VALUES: [i32; 6] = [0, 1, 2, 32, 62, 63];
 
-// Random calls on one store and on the model.
+/// Random calls on one store and on the model.
 fn alone<S: Store>(store: &mut S, model: &mut Model, relations: usize) -> Result<Tally, AnyError> {
     let mut generator = Generator::new(20_240_601);
     let mut tally = Tally::new();
@@ -56,7 +56,7 @@ fn alone<S: Store>(store: &mut S, model: &mut Model, relations: usize) -> Result
     Ok(tally)
 }
 
-// The same calls on two stores and on the model, with facts that both stores take.
+/// The same calls on two stores and on the model, with facts that both stores take.
 fn side_by_side<S: Store, T: Store>(
     first: &mut S,
     second: &mut T,

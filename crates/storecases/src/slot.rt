@@ -1,4 +1,4 @@
-// A store with one place: the smallest example of what the author of a store writes.
+//! A store with one place: the smallest example of what the author of a store writes.
 ghost use mathlib.Core.Path.{_≡_};
 ghost use mathlib.Core.Bool.{true};
 ghost use Rattle.store.specs.Facts.{in-range};

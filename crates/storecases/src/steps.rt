@@ -1,4 +1,4 @@
-// One call of a store, its answer in plain numbers, and the answers of the questions after it.
+//! One call of a store, its answer in plain numbers, and the answers of the questions after it.
 use crate::model::Model;
 use random::Generator;
 use std::alloc::AllocError;
@@ -29,7 +29,7 @@ pub struct Answer {
     pub capacity: usize,
 }
 
-// Half of the calls are puts, a quarter drops, a quarter walks. The fact is put together from the tables.
+/// Half of the calls are puts, a quarter drops, a quarter walks. The fact is put together from the tables.
 pub fn random_step(
     generator: &mut Generator,
     relations: usize,
@@ -57,7 +57,7 @@ pub fn random_step(
     }
 }
 
-// A walk's answer as a number and a fact.
+/// A walk's answer as a number and a fact.
 fn met_or(found: Option<Fact>, start: Fact) -> (u8, Fact) {
     match found {
         Some(fact) => (1, fact),

@@ -1,4 +1,4 @@
-// How many answers of each kind were compared.
+//! How many answers of each kind were compared.
 use crate::steps::Answer;
 use crate::steps::Call;
 use std::fmt;
