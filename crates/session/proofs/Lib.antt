@@ -1,0 +1,6 @@
+pub mod Places
+pub mod Stamps
+pub mod Replays
+pub mod Meanings
+pub mod Books
+pub mod Laws
