@@ -8,3 +8,4 @@ pub mod RuleLines
 pub mod RuleLoop
 pub mod Whole
 pub mod TableFacts
+pub mod Reaching

@@ -1,7 +1,8 @@
 -- The reach of a rule.
-use mathlib.Core.List.{List, [], _∷_, _++_}
-use Prim.Native.Nat.{ℕ, _≤_}
-use lib.ListN.{getD}
+use mathlib.Core.List.{List}
+use mathlib.Core.Path.{_≡_}
+use Prim.Native.Nat.{ℕ, _+_, _*_, _<_, _≤_}
+use lib.ListN.{length, getD}
 use Rattle.std.specs.declared.option.Option.{Option}
 use Rattle.std.specs.declared.option.Option.the-variants.{Some, None}
 use Rattle.std.specs.declared.result.Result.{Result}
@@ -44,3 +45,12 @@ node-reach rs (node.Since w a b) = greater (getD rs a (Some 0)) (getD rs b (Some
 abbrev pub Upto : ℕ → Option ℕ → Type 0
 Upto m None = Unit {0}
 Upto m (Some d) = d ≤ m
+
+-- each reach is at most the widest bound for each node
+abbrev pub Small : List (Option ℕ) → Type 0
+Small rs = (m : ℕ) → m < length rs → Upto (length rs * 4294967295) (getD rs m None)
+
+-- the reach of the next node
+pub record Reached (rs : List (Option ℕ)) (x : Node) (r : Option ℕ) : Type 0 where
+  pub value : r ≡ node-reach rs x
+  pub small : Upto ((length rs + 1) * 4294967295) r

@@ -3,6 +3,7 @@ mod build;
 mod formula;
 mod make;
 pub mod questions;
+mod reach;
 mod read;
 mod reader;
 pub mod refusal;
