@@ -6,3 +6,4 @@ pub mod FileAcceptance
 pub mod RoundTrip
 pub mod TableText
 pub mod OrderedNodes
+pub mod TableFacts

@@ -5,6 +5,7 @@ pub mod Reading
 pub mod Trees
 pub mod Files
 pub mod Formed
+pub mod Invariants
 pub mod Ordered
 pub mod TableText
 pub mod RoundTrip

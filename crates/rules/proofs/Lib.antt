@@ -7,5 +7,5 @@ pub mod Formulas
 pub mod RuleLines
 pub mod RuleLoop
 pub mod Whole
-pub mod TableFacts
+pub mod Placed
 pub mod Reaching

@@ -3,7 +3,7 @@ use mathlib.Core.List.{[], map}
 use Rattle.std.specs.Of.Vec.{vec-items}
 use Rattle.grammar.specs.Entries.{entry-of}
 use Rattle.grammar.specs.Formed.{Formed}
-use Rattle.rules.proofs.TableFacts.{none-formed}
+use Rattle.grammar.proofs.TableFacts.{none-formed}
 use Rattle.rules.proofs.table.Table.new.Needs as need
 
 pub of-requires : need.of-requires
