@@ -15,7 +15,7 @@ use Rattle.std.specs.Results.{isOk}
 use Rattle.std.proofs.shelf.Tests.{eq-eqb, lt-ltb}
 use Rattle.truth.specs.Kleene.{plain}
 use Rattle.syntax.specs.Nodes.{root-of, formula-at}
-use Rattle.rules.specs.declared.fault.JudgeFault.the-variants.{Record, Stamp, UnknownRule, NoSuchState}
+use Rattle.rules.specs.declared.refusal.JudgeFault.the-variants.{Record, Stamp, UnknownRule, NoSuchState}
 use Rattle.rules.specs.Tables.{nodes-of, rules-of}
 use Rattle.eval.specs.declared.misfit.Misfit.{Misfit}
 use Rattle.eval.specs.Rows.{row-record}

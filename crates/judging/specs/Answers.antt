@@ -12,8 +12,8 @@ use Rattle.std.specs.Options.{isSome, valueOr}
 use Rattle.truth.specs.Kleene.{plain}
 use Rattle.syntax.specs.Formula.{Formula}
 use Rattle.syntax.specs.Nodes.{root-of, formula-at}
-use Rattle.rules.specs.declared.fault.JudgeFault.{JudgeFault}
-use Rattle.rules.specs.declared.fault.JudgeFault.the-variants.{Record, Stamp, UnknownRule, NoSuchState}
+use Rattle.rules.specs.declared.refusal.JudgeFault.{JudgeFault}
+use Rattle.rules.specs.declared.refusal.JudgeFault.the-variants.{Record, Stamp, UnknownRule, NoSuchState}
 use Rattle.rules.specs.declared.table.Table.{Table}
 use Rattle.rules.specs.Tables.{nodes-of, rules-of}
 use Rattle.eval.specs.Rows.{row-record}

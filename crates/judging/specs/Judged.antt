@@ -4,7 +4,7 @@ use mathlib.Core.List.{List}
 use Prim.Native.Nat.{ℕ}
 use Rattle.std.specs.declared.result.Result.{Result}
 use Rattle.std.specs.declared.result.Result.the-variants.{Ok, Err}
-use Rattle.rules.specs.declared.fault.JudgeFault.{JudgeFault}
+use Rattle.rules.specs.declared.refusal.JudgeFault.{JudgeFault}
 use Rattle.rules.specs.declared.table.Table.{Table}
 use Rattle.judging.specs.Answers.{judge-answer}
 use Rattle.judging.specs.declared.judged.Judged.{Judged}

@@ -18,7 +18,7 @@ use eval::evaluator::evaluate;
 use eval::leaves::Rows;
 use eval::leaves::RowsLeaves;
 use eval::windows::are_rising;
-use rules::fault::JudgeFault;
+use rules::refusal::JudgeFault;
 use rules::table::Table;
 use truth::BoolTruth;
 

@@ -1,6 +1,6 @@
 //! A refused record.
 use crate::workspace::Workspace;
-use rules::fault::JudgeFault;
+use rules::refusal::JudgeFault;
 
 /// Why a record is not judged, with the workspace that was handed in.
 #[derive(Drop)]
