@@ -16,7 +16,12 @@ fn push_reach(heap: Global, out: &mut Vec<u8>, reach: Option<u64>) -> Result<(),
     }
 }
 
-pub(crate) fn push_summary(heap: Global, out: &mut Vec<u8>, formulas: usize, reach: Option<u64>) -> Result<(), AllocError>
+pub(crate) fn push_summary(
+    heap: Global,
+    out: &mut Vec<u8>,
+    formulas: usize,
+    reach: Option<u64>,
+) -> Result<(), AllocError>
     ensures { λ r. ⌜ Added r (vec-items (now (out .entry))) (vec-items (now (out .exit))) (summary formulas reach) ⌝ }
 {
     push_text(out, b"  ")?;
