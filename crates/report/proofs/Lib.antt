@@ -1,3 +1,4 @@
 pub mod Lines
 pub mod Excerpts
 pub mod Appends
+pub mod RuleReports

@@ -1,12 +1,16 @@
 -- What the rule checker prints.
 use mathlib.Core.List.{List, [], _∷_, _++_}
-use Prim.Native.Nat.{ℕ}
+use Prim.Native.Nat.{ℕ, _+_, _-_}
 use lib.Chars.{codes}
 use Rattle.std.specs.Written.{decimal}
 use Rattle.std.specs.declared.option.Option.{Option}
 use Rattle.std.specs.declared.option.Option.the-variants.{Some, None}
 use Rattle.grammar.specs.declared.fault.ReadFault.{ReadFault}
 use Rattle.grammar.specs.Faults.{fault-number}
+use Rattle.grammar.specs.TableText.{rule-text, texts}
+use Rattle.syntax.specs.declared.Rule.{Rule}
+use Rattle.rules.specs.declared.table.Table.{Table}
+use Rattle.rules.specs.Tables.{nodes-of, rules-of, entries-of}
 use Rattle.report.specs.Lines.{line-of}
 use Rattle.report.specs.Excerpts.{excerpt}
 
@@ -26,3 +30,19 @@ reach-text None = codes "none"
 -- the line under a rule: its number of formulas and its reach
 abbrev pub summary : ℕ → Option ℕ → List ℕ
 summary formulas reach = codes "  " ++ (decimal formulas ++ (codes " formulas, reach " ++ (reach-text reach ++ (10 ∷ []))))
+
+-- the reach of the rule with that number
+abbrev pub reach-of : Table → ℕ → Option ℕ
+reach-of t number = None
+
+-- a rule as it is printed, where the nodes of the rules before it are so many: its own are the next ones, up to its root
+abbrev pub rule-report : Table → ℕ → Rule → List ℕ
+rule-report t before r = rule-text (texts [] (entries-of t)) r ++ summary (r .root + 1 - before) (reach-of t (r .number))
+
+abbrev pub rules-report : Table → ℕ → List Rule → List ℕ
+rules-report t before [] = []
+rules-report t before (r ∷ rs) = rule-report t before r ++ rules-report t (r .root + 1) rs
+
+-- the report on an accepted file
+abbrev pub table-report : Table → List ℕ
+table-report t = rules-report t 0 (rules-of t)

@@ -3,4 +3,7 @@ mod append;
 mod excerpt;
 pub mod fault;
 pub mod line;
+pub mod report;
 mod summary;
+pub mod table;
+pub mod whole;

@@ -1,0 +1,46 @@
+use mathlib.Core.Path.{_≡_, sym, ap, _∙_}
+use mathlib.Core.List.{[]}
+use Prim.Native.Nat.{_+_, _-_, _<_, _≤_}
+use native.Mathlib.Omega.{arith}
+use lib.ListN.{length, getD}
+use Rattle.std.specs.Of.Vec.{vec-items, vec-len}
+use Rattle.grammar.specs.TableText.{rule-text, texts}
+use Rattle.syntax.specs.declared.Rule.{Rule}
+use Rattle.rules.specs.declared.table.Table.{Table}
+use Rattle.rules.specs.Tables.{rules-of, entries-of}
+use Rattle.writer.proofs.RuleTexts.{root-at, text-of-rule}
+use Rattle.report.specs.Reports.{summary, reach-of}
+use Rattle.report.proofs.Appends.{then-added, added-same}
+use Rattle.report.proofs.RuleReports.{one-more, all-done}
+use Rattle.report.proofs.table.push_rules.Needs as need
+
+pub add-end : need.add-end
+add-end c =
+    let t = c .args .table .now in
+    let i = c .loop-i .i in
+    let none : Rule = record { number = 0; root = 0 } in
+    let rules = c .rules-rule-items .ensures .value in
+    let lt : i < length (rules-of t) = omega (arith, ap length rules) in
+    let below : getD (rules-of t) i none .root < vec-len (t .nodes) = root-at (vec-len (t .nodes)) (rules-of t) i none (t .roots) lt in
+    let few : vec-len (t .nodes) ≤ 64 = t .few in
+    omega (arith, ap (λ l. getD l i none .root) rules)
+
+pub loop-i-again : need.loop-i-again
+loop-i-again c =
+    let t = c .args .table .now in
+    let i = c .loop-i .i in
+    let none : Rule = record { number = 0; root = 0 } in
+    let rules = c .rules-rule-items .ensures .value in
+    let r : Rule = getD (c .rules-rule-items .result .now) i none in
+    let is : r ≡ getD (rules-of t) i none = ap (λ l. getD l i none) rules in
+    let lt : i < length (rules-of t) = omega (arith, ap length rules) in
+    let text : c .as-slice .result .now ≡ rule-text (texts [] (entries-of t)) r =
+        c .as-slice .ensures .value ∙ c .in-Continue-text .ensures tt ∙ text-of-rule (rule-text (texts [] (entries-of t))) (rules-of t) i none lt ∙ ap (rule-text (texts [] (entries-of t))) (sym is) in
+    let line : summary (c .saturating-sub .result) (c .reach-of-reach .result) ≡ summary (r .root + 1 - c .loop-i .before) (reach-of t (r .number)) =
+        ap (λ n. summary n (c .reach-of-reach .result)) (c .saturating-sub .ensures) ∙ ap (summary (r .root + 1 - c .loop-i .before)) (c .reach-of-reach .ensures) in
+    one-more (vec-items (c .push-summary .last .out)) r none is lt (c .loop-i .inv) (then-added (added-same text (c .in-Continue-push-text .ensures tt)) (added-same line (c .in-Continue-push-summary .ensures tt)) .is)
+
+pub returns : need.returns
+returns c =
+    let past : length (rules-of (c .args .table .now)) ≤ c .loop-i .i = omega (arith, ap length (c .rules-rule-items .ensures .value)) in
+    record { is = all-done past (c .loop-i .inv) }
