@@ -19,9 +19,9 @@ none-yet t rs start = record { whole = refl }
 pub one-more : {t : Table} {rs : List Rule} {start : List ℕ} {i before : ℕ} {out : List ℕ} (after : List ℕ) (r d : Rule) → r ≡ getD rs i d → i < length rs → Sofar t rs start i before out → after ≡ out ++ rule-report t before r → Sofar t rs start (i + 1) (r .root + 1) after
 one-more {t} {rs} {start} {i} {before} {out} after r d is lt h e =
     let next : rules-report t before (drop i rs) ≡ rule-report t before r ++ rules-report t (r .root + 1) (drop (i + 1) rs) =
-        at-drop-more (rules-report t before) rs i d lt ∙ ap (λ q. rules-report t before (q ∷ drop (i + 1) rs)) (sym is) in
+    at-drop-more (rules-report t before) rs i d lt ∙ ap (λ q. rules-report t before (q ∷ drop (i + 1) rs)) (sym is) in
     record {
-      whole = ap (λ x. x ++ rules-report t (r .root + 1) (drop (i + 1) rs)) e ∙ append-assoc out (rule-report t before r) (rules-report t (r .root + 1) (drop (i + 1) rs)) ∙ ap (λ x. out ++ x) (sym next) ∙ h .whole
+      whole = ap (λ x. x ++ rules-report t (r .root + 1) (drop (i + 1) rs)) e ∙ append-assoc out (rule-report t before r) (rules-report t (r .root + 1) (drop (i + 1) rs)) ∙ ap (λ x. out ++ x) (sym next) ∙ h .whole;
     }
 
 pub all-done : {t : Table} {rs : List Rule} {start : List ℕ} {i before : ℕ} {out : List ℕ} → length rs ≤ i → Sofar t rs start i before out → out ≡ start ++ rules-report t 0 rs

@@ -3,3 +3,4 @@ pub mod Excerpts
 pub mod Appends
 pub mod Reports
 pub mod Checks
+pub mod Answered

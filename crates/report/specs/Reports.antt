@@ -9,6 +9,8 @@ use Rattle.grammar.specs.declared.fault.ReadFault.{ReadFault}
 use Rattle.grammar.specs.Faults.{fault-number}
 use Rattle.grammar.specs.TableText.{rule-text, texts}
 use Rattle.syntax.specs.declared.Rule.{Rule}
+use Rattle.syntax.specs.Formula.{reach}
+use Rattle.syntax.specs.Nodes.{formula-at}
 use Rattle.rules.specs.declared.table.Table.{Table}
 use Rattle.rules.specs.Tables.{nodes-of, rules-of, entries-of}
 use Rattle.report.specs.Lines.{line-of}
@@ -31,13 +33,9 @@ reach-text None = codes "none"
 abbrev pub summary : ℕ → Option ℕ → List ℕ
 summary formulas reach = codes "  " ++ (decimal formulas ++ (codes " formulas, reach " ++ (reach-text reach ++ (10 ∷ []))))
 
--- the reach of the rule with that number
-abbrev pub reach-of : Table → ℕ → Option ℕ
-reach-of t number = None
-
 -- a rule as it is printed, where the nodes of the rules before it are so many: its own are the next ones, up to its root
 abbrev pub rule-report : Table → ℕ → Rule → List ℕ
-rule-report t before r = rule-text (texts [] (entries-of t)) r ++ summary (r .root + 1 - before) (reach-of t (r .number))
+rule-report t before r = rule-text (texts [] (entries-of t)) r ++ summary (r .root + 1 - before) (reach (formula-at (nodes-of t) (r .root)))
 
 abbrev pub rules-report : Table → ℕ → List Rule → List ℕ
 rules-report t before [] = []

@@ -3,7 +3,10 @@ ghost use mathlib.Core.Path.{_≡_};
 ghost use Rattle.std.specs.Of.Vec.{vec-items};
 ghost use Rattle.std.specs.Vec.{made};
 ghost use Rattle.report.specs.Appends.{Added};
-ghost use Rattle.report.specs.Reports.{reach-of, table-report};
+ghost use Rattle.report.specs.Reports.{table-report};
+ghost use Rattle.rules.specs.Reaches.{rule-reach};
+ghost use Rattle.rules.specs.Tables.{nodes-of, rules-of};
+ghost use Rattle.report.specs.Answered.{answered};
 use crate::append::push_text;
 use crate::summary::push_summary;
 use rules::table::Table;
@@ -22,9 +25,12 @@ pub fn table_report(heap: Global, table: &Table) -> Result<Vec<u8>, AllocError>
 }
 
 fn reach_of(table: &Table, number: u8) -> Option<u64>
-    ensures { λ r. ⌜ r ≡ reach-of (now (table .entry)) number ⌝ }
+    ensures { λ r. ⌜ r ≡ answered (rule-reach number (nodes-of (now (table .entry))) (rules-of (now (table .entry)))) ⌝ }
 {
-    None
+    match table.reach(number) {
+        Ok(reach) => reach,
+        Err(_) => None,
+    }
 }
 
 fn push_rules(heap: Global, out: &mut Vec<u8>, table: &Table) -> Result<(), AllocError>

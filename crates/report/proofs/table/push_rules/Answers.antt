@@ -7,9 +7,14 @@ use Rattle.std.specs.Of.Vec.{vec-items, vec-len}
 use Rattle.grammar.specs.TableText.{rule-text, texts}
 use Rattle.syntax.specs.declared.Rule.{Rule}
 use Rattle.rules.specs.declared.table.Table.{Table}
-use Rattle.rules.specs.Tables.{rules-of, entries-of}
+use Rattle.syntax.specs.Formula.{reach}
+use Rattle.syntax.specs.Nodes.{formula-at}
+use Rattle.rules.specs.Reaches.{rule-reach}
+use Rattle.rules.specs.Tables.{nodes-of, rules-of, entries-of}
+use Rattle.report.proofs.Known.{own-reach}
 use Rattle.writer.proofs.RuleTexts.{root-at, text-of-rule}
-use Rattle.report.specs.Reports.{summary, reach-of}
+use Rattle.report.specs.Reports.{summary}
+use Rattle.report.specs.Answered.{answered}
 use Rattle.report.proofs.Appends.{then-added, added-same}
 use Rattle.report.proofs.RuleReports.{one-more, all-done}
 use Rattle.report.proofs.table.push_rules.Needs as need
@@ -35,9 +40,11 @@ loop-i-again c =
     let is : r ≡ getD (rules-of t) i none = ap (λ l. getD l i none) rules in
     let lt : i < length (rules-of t) = omega (arith, ap length rules) in
     let text : c .as-slice .result .now ≡ rule-text (texts [] (entries-of t)) r =
-        c .as-slice .ensures .value ∙ c .in-Continue-text .ensures tt ∙ text-of-rule (rule-text (texts [] (entries-of t))) (rules-of t) i none lt ∙ ap (rule-text (texts [] (entries-of t))) (sym is) in
-    let line : summary (c .saturating-sub .result) (c .reach-of-reach .result) ≡ summary (r .root + 1 - c .loop-i .before) (reach-of t (r .number)) =
-        ap (λ n. summary n (c .reach-of-reach .result)) (c .saturating-sub .ensures) ∙ ap (summary (r .root + 1 - c .loop-i .before)) (c .reach-of-reach .ensures) in
+    c .as-slice .ensures .value ∙ c .in-Continue-text .ensures tt ∙ text-of-rule (rule-text (texts [] (entries-of t))) (rules-of t) i none lt ∙ ap (rule-text (texts [] (entries-of t))) (sym is) in
+    let own : answered (rule-reach (r .number) (nodes-of t) (rules-of t)) ≡ reach (formula-at (nodes-of t) (r .root)) =
+    ap (λ q. answered (rule-reach (q .number) (nodes-of t) (rules-of t))) is ∙ own-reach none t i lt ∙ ap (λ q. reach (formula-at (nodes-of t) (q .root))) (sym is) in
+    let line : summary (c .saturating-sub .result) (c .reach-of-reach .result) ≡ summary (r .root + 1 - c .loop-i .before) (reach (formula-at (nodes-of t) (r .root))) =
+    ap (λ n. summary n (c .reach-of-reach .result)) (c .saturating-sub .ensures) ∙ ap (summary (r .root + 1 - c .loop-i .before)) (c .reach-of-reach .ensures ∙ own) in
     one-more (vec-items (c .push-summary .last .out)) r none is lt (c .loop-i .inv) (then-added (added-same text (c .in-Continue-push-text .ensures tt)) (added-same line (c .in-Continue-push-summary .ensures tt)) .is)
 
 pub returns : need.returns
