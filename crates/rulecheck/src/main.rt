@@ -17,16 +17,17 @@ fn input(rt: &LibcRuntime) -> Result<Vec<u8>, AnyError> {
     Ok(text)
 }
 
-fn run(rt: &LibcRuntime) -> Result<(), AnyError> {
+/// Prints the report; whether the file was accepted.
+fn run(rt: &LibcRuntime) -> Result<bool, AnyError> {
     let text = input(rt)?;
     let report = report(rt.alloc(), text.as_slice())?;
     rt.stdout().write_all(report.text.as_slice())?;
-    if report.accepted {
-        return Ok(());
-    }
-    Err("faulty rule file".into())
+    Ok(report.accepted)
 }
 
 fn main(rt: LibcRuntime) -> Result<(), AnyError> {
-    rt.report(run(&rt))
+    if rt.report(run(&rt))? {
+        return Ok(());
+    }
+    Err("faulty rule file".into())
 }
