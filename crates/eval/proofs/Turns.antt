@@ -97,11 +97,11 @@ module _ {K : Type 0} {k : Kind K} (laws : Laws k) (r : Record K) (w : Window) w
   pub since-start : (f : ℕ → K) (i : ℕ) → k .yes ≡ all k (suc i) (λ m. leb (i + 1) m) f
   since-start f i = sym (all-none laws (suc i) (λ m. leb (i + 1) m) f (λ j l. lt-leb (i + 1) j (omega arith)))
 
-  pub since-turn : (f : ℕ → K) (i j : ℕ) {x y q : K} → 0 < j → j ≤ i + 1 → x ≡ all k (suc i) (λ m. leb j m) f → y ≡ f (j - 1) → q ≡ k .and y x
+  pub since-turn : (f : ℕ → K) (i j : ℕ) {x y q : K} → 0 < j → j ≤ i + 1 → x ≡ all k (suc i) (λ m. leb j m) f → y ≡ f (j - 1) → q ≡ k .and x y
       → q ≡ all k (suc i) (λ m. leb (j - 1) m) f
   since-turn f i j {x} {y} p h inv py pq =
       let less : j ≡ suc (j - 1) = omega arith in
-      pq ∙ ap₂ (k .and) py (inv ∙ ap (λ n. all k (suc i) (λ m. leb n m) f) less) ∙ sym (all-front laws (suc i) (j - 1) (omega arith) f)
+      pq ∙ laws .and-comm x y ∙ ap₂ (k .and) py (inv ∙ ap (λ n. all k (suc i) (λ m. leb n m) f) less) ∙ sym (all-front laws (suc i) (j - 1) (omega arith) f)
 
   -- the second operand at a state and the first after it
   pub since-here : (f g : ℕ → K) (i j : ℕ) {x y q : K} → 0 < j → x ≡ all k (suc i) (λ m. leb j m) f → y ≡ g (j - 1) → q ≡ k .and y x

@@ -75,6 +75,16 @@ pub(crate) fn at_always<K: Truth>(
     at_sometime(stamps, &negation(operand), i, w, pending).not()
 }
 
+/// The second operand at state `j` where the first has held so far, and how the first holds with state `j`.
+fn turn<K: Truth>(first: &Column<'_, K>, second: &Column<'_, K>, held: K, j: usize) -> (K, K)
+    requires { ⌜ j < now first .states ⌝ ∗ ⌜ j < now second .states ⌝ }
+    ensures here { λ r. ⌜ r .0 ≡ kind .and (at kind (now (second .entry)) j) held ⌝ }
+    ensures on { λ r. ⌜ r .1 ≡ kind .and held (at kind (now (first .entry)) j) ⌝ }
+{
+    let on = held.and(read(first, j));
+    (read(second, j).and(held), on)
+}
+
 /// The second operand at some state of the future window and the first at every state before it,
 /// or the first at every state from `i` on and the open mark.
 /// `kept` is the first operand at every state from `i` on. Cost: the states up to the window's end.
@@ -96,11 +106,9 @@ pub(crate) fn at_until<K: Truth>(
     let mut any = K::no();
     let mut held = K::yes();
     for j in i..end {
-        let b = read(second, j);
-        let here = b.and(held);
+        let (here, on) = turn(first, second, held, j);
         any = any.or(only_if(contains(w, distance(stamps, i, j)), here));
-        let a = read(first, j);
-        held = held.and(a);
+        held = on;
     }
     any.or(kept.and(open_mark(stamps, i, w, pending)))
 }
@@ -172,11 +180,9 @@ pub(crate) fn at_since<K: Truth>(
     let mut any = K::no();
     let mut held = K::yes();
     for j in (start..i + 1).rev() {
-        let b = read(second, j);
-        let here = b.and(held);
+        let (here, on) = turn(first, second, held, j);
         any = only_if(contains(w, distance(stamps, j, i)), here).or(any);
-        let a = read(first, j);
-        held = a.and(held);
+        held = on;
     }
     any
 }

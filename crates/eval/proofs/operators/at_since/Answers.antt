@@ -1,5 +1,5 @@
 use native.Mathlib.Omega.{arith}
-use mathlib.Core.Path.{_≡_, subst, sym, _∙_}
+use mathlib.Core.Path.{refl, _≡_, subst, sym, _∙_}
 use Prim.Native.Nat.{suc, _+_}
 use lib.Dec.{ltb}
 use Rattle.eval.specs.Columns.{at}
@@ -22,9 +22,9 @@ loop-j-again g c =
       omega (arith, c .loop-j .inv .0),
       past-turn (g .K·Truth·met .laws) (timed k (c .args .stamps .now) (k .no)) (c .args .w) (λ j. k .and (at k (c .args .second .now) j) (all k (suc (c .args .i)) (λ m. ltb j m) (at k (c .args .first .now)))) (c .args .i) (c .loop-j .j)
           (omega arith) (omega arith) (c .loop-j .inv .1) (c .distance .ensures) (c .contains .ensures)
-          (since-here (g .K·Truth·met .laws) (timed k (c .args .stamps .now) (k .no)) (c .args .w) (at k (c .args .first .now)) (at k (c .args .second .now)) (c .args .i) (c .loop-j .j) (omega arith) (c .loop-j .inv .2) (c .read-b .ensures) (c .and-here .ensures))
+          (since-here (g .K·Truth·met .laws) (timed k (c .args .stamps .now) (k .no)) (c .args .w) (at k (c .args .first .now)) (at k (c .args .second .now)) (c .args .i) (c .loop-j .j) (omega arith) (c .loop-j .inv .2) refl (c .turn-here .ensures .here))
           (c .only-if .ensures) (c .or-any .ensures),
-      since-turn (g .K·Truth·met .laws) (timed k (c .args .stamps .now) (k .no)) (c .args .w) (at k (c .args .first .now)) (c .args .i) (c .loop-j .j) (omega arith) (omega arith) (c .loop-j .inv .2) (c .read-a .ensures) (c .and-held .ensures),
+      since-turn (g .K·Truth·met .laws) (timed k (c .args .stamps .now) (k .no)) (c .args .w) (at k (c .args .first .now)) (c .args .i) (c .loop-j .j) (omega arith) (omega arith) (c .loop-j .inv .2) refl (c .turn-here .ensures .on),
     )
 
 pub returns : need.returns

@@ -1,5 +1,5 @@
 use native.Mathlib.Omega.{arith}
-use mathlib.Core.Path.{ap₂, _∙_}
+use mathlib.Core.Path.{refl, ap₂, _∙_}
 use lib.Dec.{leb}
 use Rattle.eval.specs.Columns.{at}
 use Rattle.eval.specs.Stamps.{timed}
@@ -18,8 +18,8 @@ pub loop-j-again : need.loop-j-again
 loop-j-again g c =
     let k = g .K·Truth .kind in (
       future-turn (g .K·Truth·met .laws) (timed k (c .args .stamps .now) (c .args .pending)) (c .args .w) (λ j. k .and (at k (c .args .second .now) j) (all k j (λ m. leb (c .args .i) m) (at k (c .args .first .now)))) (c .args .i) (c .loop-j .j)
-          (omega arith) (c .loop-j .inv .0) (c .distance .ensures) (c .contains .ensures) (c .and-here .ensures ∙ ap₂ (k .and) (c .read-b .ensures) (c .loop-j .inv .1)) (c .only-if .ensures) (c .or-any .ensures),
-      kept-turn (g .K·Truth·met .laws) (timed k (c .args .stamps .now) (c .args .pending)) (c .args .w) (at k (c .args .first .now)) (c .args .i) (c .loop-j .j) (omega arith) (c .loop-j .inv .1) (c .read-a .ensures) (c .and-held .ensures),
+          (omega arith) (c .loop-j .inv .0) (c .distance .ensures) (c .contains .ensures) (c .turn-here .ensures .here ∙ ap₂ (k .and) refl (c .loop-j .inv .1)) (c .only-if .ensures) (c .or-any .ensures),
+      kept-turn (g .K·Truth·met .laws) (timed k (c .args .stamps .now) (c .args .pending)) (c .args .w) (at k (c .args .first .now)) (c .args .i) (c .loop-j .j) (omega arith) (c .loop-j .inv .1) refl (c .turn-here .ensures .on),
     )
 
 pub returns : need.returns
