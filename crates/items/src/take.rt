@@ -43,14 +43,15 @@ impl<'a> Cursor<'a> {
         ensures items { λ r. ⌜ items-left (now (self .exit)) ≡ other-items (items-left (now (self .entry))) ⌝ }
         ensures end { λ r. ⌜ end-left (now (self .exit)) ≡ end-left (now (self .entry)) ⌝ }
     {
-        if self.rest.is_empty() {
+        let Cursor { rest, place } = *self;
+        if rest.is_empty() {
             return None;
         }
-        let (run, after) = self.rest.split_at(run_len(self.rest));
-        let item = item_of(run, self.place);
+        let (run, after) = rest.split_at(run_len(rest));
+        let item = item_of(run, place);
         *self = Cursor {
             rest: after,
-            place: place_past(self.place, run),
+            place: place_past(place, run),
         };
         Some(item)
     }

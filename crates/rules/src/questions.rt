@@ -32,7 +32,7 @@ impl Table {
         ensures value { λ r. ⌜ r ≡ root-of number (rules-of (now (self .entry))) ⌝ }
         ensures within { λ r. ⌜ ((m : ℕ) → root-of number (rules-of (now (self .entry))) ≡ Some m → m < length (nodes-of (now (self .entry)))) ⌝ }
     {
-        root_in(self.rules.as_slice(), number)
+        root_in(self.rules(), number)
     }
 }
 
