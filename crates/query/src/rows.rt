@@ -11,6 +11,7 @@ use rules::table::Table;
 use store::Store;
 use syntax::Node;
 
+/// What a node answers: a query node its query, every other node no.
 fn node_answer<S: Store>(store: &S, node: Node) -> bool
     ensures { λ r. ⌜ r ≡ node-answer node (meaning (now (store .entry)) .facts) ⌝ }
 {

@@ -32,6 +32,7 @@ fn start_at(relation: u8, key: u32) -> Fact
     }
 }
 
+/// The fact found, if it has the key of `fact`.
 fn at_same_key(fact: Fact, found: Option<Fact>) -> Option<Fact>
     ensures { λ r. ⌜ r ≡ at-same-key fact found ⌝ }
 {
@@ -49,13 +50,14 @@ fn least_beside<S: Store>(store: &S, relation: u8, fact: Fact) -> Option<Fact>
     at_same_key(fact, store.walk(start_at(relation, fact.key)))
 }
 
-/// Cost: one walk.
+/// Whether the relation has the key of `fact`. Cost: one walk.
 fn has_key<S: Store>(store: &S, relation: u8, fact: Fact) -> bool
     ensures { λ r. ⌜ r ≡ has-key-of fact (of-relation relation (meaning (now (store .entry)) .facts)) ⌝ }
 {
     least_beside(store, relation, fact).is_some()
 }
 
+/// Whether the value of `fact` is at most every value of the relation at its key.
 /// Cost: one walk, since a value that is at most the least is at most each.
 fn is_level<S: Store>(store: &S, relation: u8, fact: Fact) -> bool
     ensures { λ r. ⌜ r ≡ level-with fact (of-relation relation (meaning (now (store .entry)) .facts)) ⌝ }
@@ -66,7 +68,7 @@ fn is_level<S: Store>(store: &S, relation: u8, fact: Fact) -> bool
     }
 }
 
-/// Whether the fact meets the test.
+/// Whether the fact meets the test. Cost: at most one walk.
 fn is_met<S: Store>(store: &S, test: Test, fact: Fact) -> bool
     ensures { λ r. ⌜ r ≡ meets test (meaning (now (store .entry)) .facts) fact ⌝ }
 {
