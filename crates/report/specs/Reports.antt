@@ -1,6 +1,6 @@
 -- What the rule checker prints.
 use mathlib.Core.List.{List, [], _∷_, _++_}
-use Prim.Native.Nat.{ℕ, _+_, _-_}
+use Prim.Native.Nat.{ℕ}
 use lib.Chars.{codes}
 use Rattle.std.specs.Written.{decimal}
 use Rattle.std.specs.declared.option.Option.{Option}
@@ -14,6 +14,7 @@ use Rattle.syntax.specs.Nodes.{formula-at}
 use Rattle.rules.specs.declared.table.Table.{Table}
 use Rattle.rules.specs.Tables.{nodes-of, rules-of, entries-of}
 use Rattle.report.specs.Lines.{line-of}
+use Rattle.report.specs.Sizes.{size}
 use Rattle.report.specs.Excerpts.{excerpt}
 
 -- the fault's number, line and byte
@@ -33,14 +34,14 @@ reach-text None = codes "none"
 abbrev pub summary : ℕ → Option ℕ → List ℕ
 summary formulas reach = codes "  " ++ (decimal formulas ++ (codes " formulas, reach " ++ (reach-text reach ++ (10 ∷ []))))
 
--- a rule as it is printed, where the nodes of the rules before it are so many: its own are the next ones, up to its root
-abbrev pub rule-report : Table → ℕ → Rule → List ℕ
-rule-report t before r = rule-text (texts [] (entries-of t)) r ++ summary (r .root + 1 - before) (reach (formula-at (nodes-of t) (r .root)))
+-- a rule as it is printed
+abbrev pub rule-report : Table → Rule → List ℕ
+rule-report t r = rule-text (texts [] (entries-of t)) r ++ summary (size (formula-at (nodes-of t) (r .root))) (reach (formula-at (nodes-of t) (r .root)))
 
-abbrev pub rules-report : Table → ℕ → List Rule → List ℕ
-rules-report t before [] = []
-rules-report t before (r ∷ rs) = rule-report t before r ++ rules-report t (r .root + 1) rs
+abbrev pub rules-report : Table → List Rule → List ℕ
+rules-report t [] = []
+rules-report t (r ∷ rs) = rule-report t r ++ rules-report t rs
 
 -- the report on an accepted file
 abbrev pub table-report : Table → List ℕ
-table-report t = rules-report t 0 (rules-of t)
+table-report t = rules-report t (rules-of t)

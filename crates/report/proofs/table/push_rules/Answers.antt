@@ -14,9 +14,11 @@ use Rattle.rules.specs.Tables.{nodes-of, rules-of, entries-of}
 use Rattle.report.proofs.Known.{own-reach}
 use Rattle.writer.proofs.RuleTexts.{root-at, text-of-rule}
 use Rattle.report.specs.Reports.{summary}
+use Rattle.report.specs.Sizes.{size}
 use Rattle.report.specs.Answered.{answered}
 use Rattle.report.proofs.Appends.{then-added, added-same}
-use Rattle.report.proofs.RuleReports.{one-more, all-done}
+use Rattle.report.proofs.Sizes.{next-size}
+use Rattle.report.proofs.RuleReports.{none-yet, one-more, all-done}
 use Rattle.report.proofs.table.push_rules.Needs as need
 
 pub add-end : need.add-end
@@ -29,6 +31,9 @@ add-end c =
     let below : getD (rules-of t) i none .root < vec-len (t .nodes) = root-at (vec-len (t .nodes)) (rules-of t) i none (t .roots) lt in
     let few : vec-len (t .nodes) ≤ 64 = t .few in
     omega (arith, ap (λ l. getD l i none .root) rules)
+
+pub loop-i-holds : need.loop-i-holds
+loop-i-holds c = none-yet (c .args .table .now) (vec-items (c .args .out .now))
 
 pub loop-i-again : need.loop-i-again
 loop-i-again c =
@@ -43,8 +48,9 @@ loop-i-again c =
     c .as-slice .ensures .value ∙ c .in-Continue-text .ensures tt ∙ text-of-rule (rule-text (texts [] (entries-of t))) (rules-of t) i none lt ∙ ap (rule-text (texts [] (entries-of t))) (sym is) in
     let own : answered (rule-reach (r .number) (nodes-of t) (rules-of t)) ≡ reach (formula-at (nodes-of t) (r .root)) =
     ap (λ q. answered (rule-reach (q .number) (nodes-of t) (rules-of t))) is ∙ own-reach none t i lt ∙ ap (λ q. reach (formula-at (nodes-of t) (q .root))) (sym is) in
-    let line : summary (c .saturating-sub .result) (c .reach-of-reach .result) ≡ summary (r .root + 1 - c .loop-i .before) (reach (formula-at (nodes-of t) (r .root))) =
-    ap (λ n. summary n (c .reach-of-reach .result)) (c .saturating-sub .ensures) ∙ ap (summary (r .root + 1 - c .loop-i .before)) (c .reach-of-reach .ensures ∙ own) in
+    let count : c .saturating-sub .result ≡ size (formula-at (nodes-of t) (r .root)) = c .saturating-sub .ensures ∙ next-size (nodes-of t) (c .loop-i .before) (rules-of t) i none r is lt (c .loop-i .inv .count) in
+    let line : summary (c .saturating-sub .result) (c .reach-of-reach .result) ≡ summary (size (formula-at (nodes-of t) (r .root))) (reach (formula-at (nodes-of t) (r .root))) =
+    ap (λ n. summary n (c .reach-of-reach .result)) count ∙ ap (summary (size (formula-at (nodes-of t) (r .root)))) (c .reach-of-reach .ensures ∙ own) in
     one-more (vec-items (c .push-summary .last .out)) r none is lt (c .loop-i .inv) (then-added (added-same text (c .in-Continue-push-text .ensures tt)) (added-same line (c .in-Continue-push-summary .ensures tt)) .is)
 
 pub returns : need.returns
