@@ -23,7 +23,7 @@ pub record Respects {K L : Type 0} (k : Kind K) (l : Kind L) (R : K → L → Ty
   pub or : (x x′ : K) (y y′ : L) → R x y → R x′ y′ → R (k .or x x′) (l .or y y′)
   pub not : (x : K) (y : L) → R x y → R (k .not x) (l .not y)
 
--- what else of a kind is used: no with anything by and is no, or of a value with itself
+-- what is used of a kind besides: no absorbs under and, and a value or itself is that value
 pub record Absorbs {K : Type 0} (k : Kind K) : Type 0 where
   pub and-no : (x : K) → k .and x (k .no) ≡ k .no
   pub or-self : (x : K) → k .or x x ≡ x

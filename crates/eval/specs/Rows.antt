@@ -13,7 +13,7 @@ module _ {K : Type 0} (k : Kind K) where
   abbrev pub truth-of : Bool → K
   truth-of b = cond b (k .yes) (k .no)
 
-  -- one row for each state, whose bit m is query node m's answer
+  -- the leaves that rows give: the bit of a state's row at the query node's number
   abbrev pub row-leaf : List ℕ → ℕ → ℕ → K
   row-leaf rows i m = truth-of (bit-of (getD rows i 0) m)
 

@@ -16,7 +16,7 @@ pub trait Leaves<K: Truth> {
         ensures { λ r. ⌜ r ≡ leaf (now (self .entry)) state node ⌝ };
 }
 
-/// One row for each state, whose bit m, from the lowest, is query node m's answer; what no row has is no.
+/// The leaves of a record that is given by rows: a set bit is yes, and whatever no row has is no.
 #[derive(Clone, Copy)]
 pub struct Rows<'a> {
     pub rows: &'a [u64],

@@ -39,7 +39,7 @@ fn open_mark<K: Truth>(stamps: &[u64], i: usize, w: Window, pending: K) -> K
     }
 }
 
-/// The operand at some state of the future window, or the open mark. Cost: the states up to the window's end.
+/// Whether the operand comes up in the future window, or may still come. Cost: the states up to the window's end.
 pub(crate) fn at_sometime<K: Truth>(
     stamps: &[u64],
     operand: &Column<'_, K>,

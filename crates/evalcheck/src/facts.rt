@@ -146,7 +146,7 @@ fn answer(entries: &[Entry], form: Form, numbers: [i64; 3]) -> bool {
     }
 }
 
-/// The answers of the formulas of a tree in the order of their closing brackets, added to those before.
+/// The answers of the formulas of a tree as their brackets close, added to those before.
 pub fn add_answers(
     entries: &[Entry],
     tree: &Tree,

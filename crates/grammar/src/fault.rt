@@ -3,11 +3,11 @@ use items::item::Place;
 
 #[derive(Clone, Copy)]
 pub enum FaultKind {
-    /// An item that the grammar does not have there, or an early end.
+    /// The grammar wants another item here, or the text ends too soon.
     Misfit,
-    /// A number ill-formed or out of range.
+    /// A number that is spelt wrongly or lies outside its range.
     BadNumber,
-    /// A second bound below the first, or a rule number that does not rise.
+    /// The upper of two bounds is the smaller, or a rule's number is not above the last one.
     Unordered,
     /// A rule, a formula or a level too many.
     TooMany,

@@ -122,6 +122,6 @@ pub record Worked-facts : Type 0 where
   pub ends : (h : List State) (i : ℕ) → Last h i → Ends h i
   pub begins : (h : List State) → Begins h
   pub empties : (h : List State) (i : ℕ) → of-relation 0 (facts-at h i) ≡ [] → Empties h i
-  -- undecided, though no history makes it false
+  -- undecided while the record runs, and true in every history
   pub still-open : (h : List State) (i : ℕ) → Unseen h → i < length h → running seen-or-not h i ≡ Undecided
   pub never-false : (h : List State) (i : ℕ) → History h → i < length h → truth seen-or-not h i ≡ true

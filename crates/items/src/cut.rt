@@ -5,7 +5,7 @@ ghost use Prim.Native.Nat.{_<_, _≤_};
 ghost use lib.ListN.{length, take, drop};
 ghost use Rattle.items.specs.Items.{class-of as expected-class, joins, runs};
 
-/// What a byte can begin: a bracket, a space, a newline, a run of letters, a run of digits and minus signs, or nothing.
+/// What a byte can begin: a bracket, a space, a newline, a run of letters, a run for a number, or nothing.
 #[derive(Clone, Copy)]
 pub enum Class {
     Open,

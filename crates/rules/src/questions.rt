@@ -10,7 +10,7 @@ use syntax::Node;
 use syntax::Rule;
 
 impl Table {
-    /// The nodes, in the order of their closing brackets.
+    /// The nodes, numbered as their brackets close.
     pub fn nodes(&self) -> &[Node]
         ensures value { λ r. ⌜ now r ≡ nodes-of (now (self .entry)) ⌝ }
         ensures few { λ r. ⌜ length (nodes-of (now (self .entry))) ≤ 64 ⌝ }

@@ -5,9 +5,9 @@ ghost use Rattle.rules.specs.Refusals.{judge-number};
 /// A refusal of the judge.
 #[derive(Clone, Copy)]
 pub enum JudgeFault {
-    /// Stamps and rows differ in length, or are too many.
+    /// There are not as many rows as stamps, or too many of both.
     Record,
-    /// A stamp is too high, or not later than the one before.
+    /// A stamp is too high, or does not rise.
     Stamp,
     /// No rule has that number.
     UnknownRule,

@@ -17,14 +17,14 @@ pub record Book : Type 0 where
   pub states : List State
   pub finished : Bool
 
--- at opening both sets are the facts found in the store
+-- a new book: the store's facts as they were found, twice, and no states
 abbrev pub new-book : List Fact → Book
 new-book s = record { current = s; kept = s; states = []; finished = false }
 
 abbrev pub with-current : List Fact → Book → Book
 with-current s b = record { current = s; kept = b .kept; states = b .states; finished = b .finished }
 
--- a refused call, a withdraw that answers none and a question leave the book as it is
+-- what each call writes into the book; where it was refused, asked, or withdrew nothing, that is nothing
 abbrev pub feed : Book → Event → Book
 feed b (began (Ok slip)) = record { current = b .current; kept = b .current; states = b .states; finished = b .finished }
 feed b (began (Err fault)) = b
@@ -78,6 +78,6 @@ pub record Pasts : Type 0 where
 abbrev pub Holds-current : View → Type 0
 Holds-current v = (past : Past v) → v .store .facts ≡ book-of past .current
 
--- and a withdraw that answers a number has brought back the set that stood at begin
+-- and a withdraw that was the open change's has restored the set from before its begin
 abbrev pub Brings-back : View → View → Type 0
 Brings-back v w = (past : Past v) → w .store .facts ≡ book-of past .kept

@@ -159,7 +159,7 @@ handed-back s (Some e) = Err (record { slip = s; fault = e })
 abbrev pub commit-reply : View → Slip → ℕ → Result (Unit {0}) CommitRefused
 commit-reply v s t = handed-back s (smallest (commit-reasons v s t))
 
--- the store's facts become the next state
+-- a state more: the stamp, and the answers on what the store holds
 abbrev pub committed-view : ℕ → View → View
 committed-view t v =
     with-change (v .begins) false []
@@ -230,7 +230,7 @@ verdict-reply v rule i = verdict-on v (rule-of (v .table) rule) i
 
 -- ---- calls
 
--- a call with its arguments and its answer
+-- one call: what it was given and what it answered
 pub data Event : Type 0 where
   began : Result Slip SessionFault → Event
   put : Slip → Fact → Result Bool SessionFault → Event

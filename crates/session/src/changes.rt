@@ -145,7 +145,7 @@ impl<'t, S: Store> Session<'t, S> {
         None
     }
 
-    /// Brings back the set that stood at begin, and answers how many alterations were undone.
+    /// Restores the set from before the change began, and says how many alterations that took.
     /// With a slip that is not the open change's it answers none and changes nothing; the slip is used up.
     /// Cost: a put or a drop of the store for each alteration.
     pub fn withdraw(&mut self, slip: Slip) -> Option<usize>

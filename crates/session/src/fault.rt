@@ -15,7 +15,7 @@ pub struct InChange {
 pub enum SessionFault {
     /// 23: the relation, key or value of a fact is out of range.
     OutOfRange,
-    /// 24: a stamp above 4,000,000,000.
+    /// 24: the stamp is more than 4,000,000,000.
     StampTooLarge,
     /// 25: no rule has that number.
     UnknownRule,

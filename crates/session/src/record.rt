@@ -56,7 +56,7 @@ impl<'t, S: Store> Session<'t, S> {
         store
     }
 
-    /// Ends the record; it may have no state. Cost: one evaluation of the table over the states; no allocation.
+    /// Closes the record, with or without states. Cost: one evaluation of the table over the states; no allocation.
     ///
     /// Refused with 52 while a change is open, 53 after finish.
     pub fn finish(&mut self) -> Result<(), SessionFault>

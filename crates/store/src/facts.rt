@@ -2,7 +2,7 @@
 ghost use mathlib.Core.Path.{_≡_};
 ghost use Rattle.store.specs.Facts.{before, same, in-range, least-of, past, value-in, Strict-total-order, Equality};
 
-/// A fact in range has a relation from 0 to 15, a key from 0 to 65,535 and a value from -1,000,000,000 to
+/// A fact in range has a relation up to 15, a key up to 65,535 and a value between -1,000,000,000 and
 /// 1,000,000,000. The types are wider, so that a call can be asked about a fact that is out of range.
 #[derive(Clone, Copy)]
 pub struct Fact {
