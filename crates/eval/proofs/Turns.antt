@@ -19,6 +19,14 @@ test-true : {K : Type 0} (a b : Bool) (x y : K) → a ≡ true → cond (a && b)
 test-true true b x y e = refl
 test-true false b x y e = cc
 
+module _ {K : Type 0} (k : Kind K) (f g : ℕ → K) (i : ℕ) where
+  -- the second operand at j, with the first at every state from i to before j, and at every state after j up to i
+  abbrev pub reached : ℕ → K
+  reached j = k .and (g j) (all k j (λ m. leb i m) f)
+
+  abbrev pub lasting : ℕ → K
+  lasting j = k .and (g j) (all k (suc i) (λ m. ltb j m) f)
+
 module _ {K : Type 0} {k : Kind K} (laws : Laws k) (r : Record K) (w : Window) where
   -- ---- the future window of state i, from i on
 

@@ -30,18 +30,18 @@ use Rattle.judging.specs.declared.judged.Judged.{Judged}
 
 -- a record that fits its room is evaluated
 pub evaluated-whole : {X : Type 0} (stamps : List ℕ) (nodes places : ℕ) (was : List X) {ws all : List X} {r : Result (Unit {0}) Misfit}
-  → length stamps * nodes ≡ places → rising stamps ≡ true → r ≡ fit stamps nodes places → ws ≡ cond (isOk r) all was → ws ≡ all
+    → length stamps * nodes ≡ places → rising stamps ≡ true → r ≡ fit stamps nodes places → ws ≡ cond (isOk r) all was → ws ≡ all
 evaluated-whole stamps nodes places was {ws} {all} fits up pr pw =
     let good : fit stamps nodes places ≡ Ok tt = rw (eq-eqb (length stamps * nodes) places fits, up) in
     pw ∙ ap (λ q. cond (isOk q) all was) (pr ∙ good)
 
 -- where nothing speaks against the question the answer stands
 pub no-refusal : {X : Type 0} (p t s l : Bool) (x : X) → p ≡ true → t ≡ true → s ≡ true → l ≡ true
-  → answered ((unless p Record ++ unless t Stamp) ++ (unless s UnknownRule ++ unless l NoSuchState)) x ≡ Ok x
+    → answered ((unless p Record ++ unless t Stamp) ++ (unless s UnknownRule ++ unless l NoSuchState)) x ≡ Ok x
 no-refusal p t s l x ep et es el = rw (ep, et, es, el)
 
 module _ (j : Judged) (rule state m : ℕ) (root : Some m ≡ root-of rule (rules-of (j .table .now)))
-  (within : m < length (nodes-of (j .table .now))) (here : state < length (j .stamps .now)) where
+    (within : m < length (nodes-of (j .table .now))) (here : state < length (j .stamps .now)) where
   pub answer-place : state * length (nodes-of (j .table .now)) + m < vec-len (j .values)
   answer-place =
       place-within state (length (nodes-of (j .table .now))) m (length (j .stamps .now)) (vec-len (j .values)) here within
@@ -51,12 +51,12 @@ module _ (j : Judged) (rule state m : ℕ) (root : Some m ≡ root-of rule (rule
   answer-is x read =
       let r = row-record plain (j .stamps .now) (j .rows .now) false in
       let is : x ≡ value plain r (formula-at (nodes-of (j .table .now)) (valueOr (root-of rule (rules-of (j .table .now))) 0)) state =
-        read ∙ ap (λ vs. getD vs (state * length (nodes-of (j .table .now)) + m) x) (j .evaluated)
-        ∙ all-values-at plain r (nodes-of (j .table .now)) state m x here within
-        ∙ ap (λ o. value plain r (formula-at (nodes-of (j .table .now)) (valueOr o 0)) state) root in
+      read ∙ ap (λ vs. getD vs (state * length (nodes-of (j .table .now)) + m) x) (j .evaluated)
+      ∙ all-values-at plain r (nodes-of (j .table .now)) state m x here within
+      ∙ ap (λ o. value plain r (formula-at (nodes-of (j .table .now)) (valueOr o 0)) state) root in
       ap Ok is ∙ sym (no-refusal _ _ _ _ _ (j .pairs) (j .timed) (sym (ap isSome root)) (lt-ltb state (length (j .stamps .now)) here))
 
 -- a known rule at a state of the record has its plain truth
 pub answered-plainly : (j : Judged) (rule state : ℕ) → isSome (root-of rule (rules-of (j .table .now))) ≡ true → state < length (j .stamps .now)
-  → case-answer (case-of j) rule state ≡ Ok (plain-truth (j .table .now) (j .stamps .now) (j .rows .now) rule state)
+    → case-answer (case-of j) rule state ≡ Ok (plain-truth (j .table .now) (j .stamps .now) (j .rows .now) rule state)
 answered-plainly j rule state known here = no-refusal _ _ _ _ _ (j .pairs) (j .timed) known (lt-ltb state (length (j .stamps .now)) here)

@@ -65,18 +65,34 @@ fn evaluated(mut values: Vec<bool>, table: &Table, stamps: &[u64], rows: &[u64])
 impl Workspace {
     /// Works out the truth of every node of the table at every state, once for any number of questions,
     /// or refuses the record and gives the workspace back. Cost: that of evaluating.
-    pub fn judge<'a>(self, table: &'a Table, stamps: &'a [u64], rows: &'a [u64]) -> Result<Judged<'a>, Refusal>
+    pub fn judge<'a>(
+        self,
+        table: &'a Table,
+        stamps: &'a [u64],
+        rows: &'a [u64],
+    ) -> Result<Judged<'a>, Refusal>
         ensures { λ r. ⌜ before-judge r ≡ answered (record-refusals (now (stamps .entry)) (now (rows .entry))) (case-from (now (table .entry)) (now (stamps .entry)) (now (rows .entry))) ⌝ }
     {
         if !are_paired(stamps, rows) {
-            return Err(Refusal { fault: JudgeFault::Record, workspace: self });
+            return Err(Refusal {
+                fault: JudgeFault::Record,
+                workspace: self,
+            });
         }
         if !are_timely(stamps) {
-            return Err(Refusal { fault: JudgeFault::Stamp, workspace: self });
+            return Err(Refusal {
+                fault: JudgeFault::Stamp,
+                workspace: self,
+            });
         }
         let Workspace { values } = self;
         let values = evaluated(values, table, stamps, rows);
-        Ok(Judged { table, stamps, rows, values })
+        Ok(Judged {
+            table,
+            stamps,
+            rows,
+            values,
+        })
     }
 }
 
@@ -96,7 +112,12 @@ impl Judged<'_> {
 
     /// Gives the workspace back.
     pub fn close(self) -> Workspace {
-        let Judged { table: _, stamps: _, rows: _, values } = self;
+        let Judged {
+            table: _,
+            stamps: _,
+            rows: _,
+            values,
+        } = self;
         Workspace { values }
     }
 }

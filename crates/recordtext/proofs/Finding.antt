@@ -32,13 +32,13 @@ free-append b xs ys fx fy k l e =
 
 -- the first place of a byte is after a front without it
 pub found-at : (xs p q : List ℕ) (b r : ℕ) → xs ≡ p ++ (b ∷ q) → Free b p → r ≤ length xs → ((k : ℕ) → k < r → getD xs k 0 ≡ b → ⊥)
-  → (r < length xs → getD xs r 0 ≡ b) → r ≡ length p
+    → (r < length xs → getD xs r 0 ≡ b) → r ≡ length p
 found-at xs p q b r is free within before found =
     ⊎-elim
     (λ e. e)
     (⊎-elim
-      (λ lt.
-        let here : getD p r 0 ≡ b = sym (getD-append-left p (b ∷ q) 0 r lt) ∙ ap (λ ys. getD ys r 0) (sym is) ∙ found (omega (arith, ap length is, length-append p (b ∷ q))) in
-        absurd (free r lt here))
-      (λ gt. absurd (before (length p) gt (ap (λ ys. getD ys (length p) 0) is ∙ getD-at p b q 0 (length p) refl))))
+    (λ lt.
+    let here : getD p r 0 ≡ b = sym (getD-append-left p (b ∷ q) 0 r lt) ∙ ap (λ ys. getD ys r 0) (sym is) ∙ found (omega (arith, ap length is, length-append p (b ∷ q))) in
+    absurd (free r lt here))
+    (λ gt. absurd (before (length p) gt (ap (λ ys. getD ys (length p) 0) is ∙ getD-at p b q 0 (length p) refl))))
     (cases-order r (length p))

@@ -40,7 +40,7 @@ decimal-no-plus n ds small e plus =
 pub decimal-no-zero : (n : ℕ) (ds : List ℕ) → n < 2 ^ 64 → ds ≡ decimal n → getD ds 0 0 ≡ 48 → 1 < length ds → ⊥
 decimal-no-zero n ds small e zero long =
     ⊎-elim
-    (λ none. omega (arith, ap length e, ap (λ k. length (decimal k)) none))
+    (λ none. omega (arith, ap length e, ap (λ k. length (decimal k)) none, ap length (decimal-digit 0 (omega arith))))
     (λ some. omega (arith, first-decimal n (omega arith) small, ap (λ xs. getD xs 0 0) e))
     (cases-eq n 0)
 
@@ -49,10 +49,10 @@ decimal-utf8 n ds small e = subst Utf8 (sym e) (utf8-from-ascii (decimal n) (asc
 
 -- what `parse` answers is the spelt number
 pub parsed : {E : Type 0} (ds : List ℕ) (r : Result ℕ E) → ReadsUnsigned 64 10 ds r → 0 < length ds → (getD ds 0 0 ≡ 43 → ⊥) → (getD ds 0 0 ≡ 48 → length ds ≡ 1)
-  → Spelt ds (okPart r)
-parsed ds r reads some plain alone = go r (parse-plain own 64 ds r reads plain)
+    → Spelt ds (okPart r)
+parsed {E} ds r reads some plain alone = go r (parse-plain own 64 ds r reads plain)
   where
-    go : (r : Result ℕ _) → Converted r (Digits 10 ds × (0 < length ds) × (value 10 ds < 2 ^ 64)) (value 10 ds) → Spelt ds (okPart r)
-    go (Ok x) h = sym (ap decimal (h .1) ∙ decimal-value own ds (h .0 .0) some alone (h .0 .2))
+    go : (r : Result ℕ E) → Converted r (Digits 10 ds × (0 < length ds) × (value 10 ds < 2 ^ 64)) (value 10 ds) → Spelt ds (okPart r)
+    go (Ok x) h = (sym (ap decimal (h .1) ∙ decimal-value own ds (h .0 .0) some alone (h .0 .2)), subst (λ v. v < 2 ^ 64) (sym (h .1)) (h .0 .2))
     go (Err e) h = λ n small is.
-      h (subst (Digits 10) (sym is) (digits-decimal own n small), some, subst (λ v. v < 2 ^ 64) (sym (ap (value 10) is ∙ value-decimal own n small)) small)
+        h (subst (Digits 10) (sym is) (digits-decimal own n small), some, subst (λ v. v < 2 ^ 64) (sym (ap (value 10) is ∙ value-decimal own n small)) small)

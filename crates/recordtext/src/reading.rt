@@ -30,7 +30,10 @@ fn natural(digits: &[u8]) -> Option<u64>
     if digits.is_empty() {
         return None;
     }
-    if digits[0] == b'+' || (digits[0] == b'0' && digits.len() > 1) {
+    if digits[0] == b'+' {
+        return None;
+    }
+    if digits[0] == b'0' && digits.len() > 1 {
         return None;
     }
     match std::str::from_utf8(digits) {
@@ -76,7 +79,10 @@ pub fn first_state(text: &[u8]) -> Option<StateLine>
         return None;
     }
     match state_of(&text[0..end]) {
-        Some(state) => Some(StateLine { state, length: end + 1 }),
+        Some(state) => Some(StateLine {
+            state,
+            length: end + 1,
+        }),
         None => None,
     }
 }

@@ -1,34 +1,44 @@
 use native.Mathlib.Omega.{arith}
 use mathlib.Core.Path.{refl, _≡_, subst, sym, _∙_}
-use Prim.Native.Nat.{suc, _+_}
-use lib.Dec.{ltb}
+use Prim.Native.Nat.{_+_}
 use Rattle.eval.specs.Columns.{at}
 use Rattle.eval.specs.Stamps.{timed}
-use Rattle.eval.specs.Truth.{all}
-use Rattle.eval.proofs.Turns.{Back, past-start, past-turn, past-end, since-start, since-turn, since-here}
+use Rattle.eval.proofs.Turns.{Back, past-start, past-turn, past-end, since-start, since-turn, since-here, lasting}
 use Rattle.eval.proofs.operators.at_since.Needs as need
 
 pub loop-j-holds : need.loop-j-holds
 loop-j-holds g c =
-    let k = g .K·Truth .kind in (
+    let k = g .K·Truth .kind in
+    let laws = g .K·Truth·met .laws in
+    let r = timed k (c .args .stamps .now) (k .no) in
+    let f = at k (c .args .first .now) in
+    let h = at k (c .args .second .now) in (
       c .past-start-start .ensures .within,
-      subst (λ x. Back (g .K·Truth·met .laws) (timed k (c .args .stamps .now) (k .no)) (c .args .w) (λ j. k .and (at k (c .args .second .now) j) (all k (suc (c .args .i)) (λ m. ltb j m) (at k (c .args .first .now)))) (c .args .i) (c .args .i + 1) x) (sym (c .no-any .ensures)) (past-start (g .K·Truth·met .laws) (timed k (c .args .stamps .now) (k .no)) (c .args .w) (λ j. k .and (at k (c .args .second .now) j) (all k (suc (c .args .i)) (λ m. ltb j m) (at k (c .args .first .now)))) (c .args .i)),
-      c .yes-held .ensures ∙ since-start (g .K·Truth·met .laws) (timed k (c .args .stamps .now) (k .no)) (c .args .w) (at k (c .args .first .now)) (c .args .i),
+      subst (λ x. Back laws r (c .args .w) (lasting k f h (c .args .i)) (c .args .i) (c .args .i + 1) x) (sym (c .no-any .ensures)) (past-start laws r (c .args .w) (lasting k f h (c .args .i)) (c .args .i)),
+      c .yes-held .ensures ∙ since-start laws r (c .args .w) f (c .args .i),
     )
 
 pub loop-j-again : need.loop-j-again
 loop-j-again g c =
-    let k = g .K·Truth .kind in (
+    let k = g .K·Truth .kind in
+    let laws = g .K·Truth·met .laws in
+    let r = timed k (c .args .stamps .now) (k .no) in
+    let f = at k (c .args .first .now) in
+    let h = at k (c .args .second .now) in (
       omega (arith, c .loop-j .inv .0),
-      past-turn (g .K·Truth·met .laws) (timed k (c .args .stamps .now) (k .no)) (c .args .w) (λ j. k .and (at k (c .args .second .now) j) (all k (suc (c .args .i)) (λ m. ltb j m) (at k (c .args .first .now)))) (c .args .i) (c .loop-j .j)
+      past-turn laws r (c .args .w) (lasting k f h (c .args .i)) (c .args .i) (c .loop-j .j)
           (omega arith) (omega arith) (c .loop-j .inv .1) (c .distance .ensures) (c .contains .ensures)
-          (since-here (g .K·Truth·met .laws) (timed k (c .args .stamps .now) (k .no)) (c .args .w) (at k (c .args .first .now)) (at k (c .args .second .now)) (c .args .i) (c .loop-j .j) (omega arith) (c .loop-j .inv .2) refl (c .turn-here .ensures .here))
+          (since-here laws r (c .args .w) f h (c .args .i) (c .loop-j .j) (omega arith) (c .loop-j .inv .2) refl (c .turn-here .ensures .here))
           (c .only-if .ensures) (c .or-any .ensures),
-      since-turn (g .K·Truth·met .laws) (timed k (c .args .stamps .now) (k .no)) (c .args .w) (at k (c .args .first .now)) (c .args .i) (c .loop-j .j) (omega arith) (omega arith) (c .loop-j .inv .2) refl (c .turn-here .ensures .on),
+      since-turn laws r (c .args .w) f (c .args .i) (c .loop-j .j) (omega arith) (omega arith) (c .loop-j .inv .2) refl (c .turn-here .ensures .on),
     )
 
 pub returns : need.returns
 returns g c =
     let k = g .K·Truth .kind in
-    past-end (g .K·Truth·met .laws) (timed k (c .args .stamps .now) (k .no)) (c .args .w) (λ j. k .and (at k (c .args .second .now) j) (all k (suc (c .args .i)) (λ m. ltb j m) (at k (c .args .first .now)))) (c .args .i) (c .loop-j .j) (c .past-start-start .result)
+    let laws = g .K·Truth·met .laws in
+    let r = timed k (c .args .stamps .now) (k .no) in
+    let f = at k (c .args .first .now) in
+    let h = at k (c .args .second .now) in
+    past-end laws r (c .args .w) (lasting k f h (c .args .i)) (c .args .i) (c .loop-j .j) (c .past-start-start .result)
     (c .pre .rises) (c .pre .within .0) (omega arith) (c .loop-j .inv .0) (c .past-start-start .ensures .within) (c .past-start-start .ensures .beyond) (c .loop-j .inv .1)

@@ -8,19 +8,28 @@ use Rattle.eval.proofs.operators.at_sometime.Needs as need
 pub loop-j-holds : need.loop-j-holds
 loop-j-holds g c =
     let k = g .K·Truth .kind in
-    c .no-any .ensures ∙ future-start (g .K·Truth·met .laws) (timed k (c .args .stamps .now) (c .args .pending)) (c .args .w) (at k (c .args .operand .now)) (c .args .i)
+    let laws = g .K·Truth·met .laws in
+    let r = timed k (c .args .stamps .now) (c .args .pending) in
+    let f = at k (c .args .operand .now) in
+    c .no-any .ensures ∙ future-start laws r (c .args .w) f (c .args .i)
 
 pub loop-j-again : need.loop-j-again
 loop-j-again g c =
     let k = g .K·Truth .kind in
-    future-turn (g .K·Truth·met .laws) (timed k (c .args .stamps .now) (c .args .pending)) (c .args .w) (at k (c .args .operand .now)) (c .args .i) (c .loop-j .j)
+    let laws = g .K·Truth·met .laws in
+    let r = timed k (c .args .stamps .now) (c .args .pending) in
+    let f = at k (c .args .operand .now) in
+    future-turn laws r (c .args .w) f (c .args .i) (c .loop-j .j)
     (omega arith) (c .loop-j .inv) (c .distance .ensures) (c .contains .ensures) (c .read-here .ensures) (c .only-if .ensures) (c .or-any .ensures)
 
 pub returns : need.returns
 returns g c =
     let k = g .K·Truth .kind in
+    let laws = g .K·Truth·met .laws in
+    let r = timed k (c .args .stamps .now) (c .args .pending) in
+    let f = at k (c .args .operand .now) in
     c .or .ensures
     ∙ ap₂ (k .or)
-    (future-end (g .K·Truth·met .laws) (timed k (c .args .stamps .now) (c .args .pending)) (c .args .w) (at k (c .args .operand .now)) (c .args .i) (c .loop-j .j) (c .future-end-end .result)
+    (future-end laws r (c .args .w) f (c .args .i) (c .loop-j .j) (c .future-end-end .result)
     (c .pre .rises) (omega arith) (omega arith) (c .future-end-end .ensures .from) (c .future-end-end .ensures .within) (c .future-end-end .ensures .beyond) (c .loop-j .inv))
     (c .open-mark .ensures)

@@ -24,12 +24,12 @@ returns c =
     let room : length ts * length (c .nodes .result .now) ≤ vec-cap (c .args .values) = omega (arith, c .pre .room) in
     let grown : vec-len v ≡ length ts * length (c .nodes .result .now) = c .resize .ensures .len ∙ cond-true _ _ _ (c .resize .ensures .succeeds room) in
     let whole =
-      evaluated-whole ts (length nodes) (length (c .as-mut-slice .result .now)) (c .as-mut-slice .result .now)
-      (sym same ∙ sym grown ∙ sym (c .as-mut-slice .ensures .len)) (c .pre .record .1) (c .evaluate .ensures .answer) (c .evaluate .ensures .values) in
+    evaluated-whole ts (length nodes) (length (c .as-mut-slice .result .now)) (c .as-mut-slice .result .now)
+    (sym same ∙ sym grown ∙ sym (c .as-mut-slice .ensures .len)) (c .pre .record .1) (c .evaluate .ensures .answer) (c .evaluate .ensures .values) in
     record {
       room = omega (arith, c .pre .room, c .resize .ensures .capacity);
       values =
-        take-at (c .evaluate .last .values) _ _
-        (ap length whole ∙ length-all-values plain (row-record plain ts (c .args .rows .now) false) nodes ∙ sym same ∙ sym grown)
-        ∙ whole;
+          take-at (c .evaluate .last .values) _ _
+          (ap length whole ∙ length-all-values plain (row-record plain ts (c .args .rows .now) false) nodes ∙ sym same ∙ sym grown)
+          ∙ whole;
     }
