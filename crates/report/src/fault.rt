@@ -18,9 +18,20 @@ pub fn fault_report(heap: Global, text: &[u8], fault: ReadFault) -> Result<Vec<u
     ensures { λ r. ⌜ made r (λ out. vec-items out ≡ fault-report (now (text .entry)) fault) ⌝ }
 {
     let mut out = Vec::new(heap);
-    push_fault(heap, &mut out, fault)?;
-    push_excerpt(&mut out, line_of(text, fault.place.line), fault.place.byte)?;
+    push_report(heap, &mut out, text, fault)?;
     Ok(out)
+}
+
+fn push_report(
+    heap: Global,
+    out: &mut Vec<u8>,
+    text: &[u8],
+    fault: ReadFault,
+) -> Result<(), AllocError>
+    ensures { λ r. ⌜ Added r (vec-items (now (out .entry))) (vec-items (now (out .exit))) (fault-report (now (text .entry)) fault) ⌝ }
+{
+    push_fault(heap, out, fault)?;
+    push_excerpt(out, line_of(text, fault.place.line), fault.place.byte)
 }
 
 fn push_fault(heap: Global, out: &mut Vec<u8>, fault: ReadFault) -> Result<(), AllocError>
