@@ -165,7 +165,7 @@ impl Tally {
         print_verdicts(rt, "finished", self.finished)?;
         println!(
             rt,
-            "rows {}: bits set {}, bits clear {}",
+            "rows of answers: {}; bits set {}, bits clear {}",
             self.rows, self.answers.yes, self.answers.no
         )?;
         println!(rt, "differences {}", self.differences)
