@@ -7,3 +7,4 @@ pub mod RoundTrip
 pub mod TableText
 pub mod OrderedNodes
 pub mod TableFacts
+pub mod Places

@@ -9,3 +9,4 @@ pub mod Invariants
 pub mod Ordered
 pub mod TableText
 pub mod RoundTrip
+pub mod Places
