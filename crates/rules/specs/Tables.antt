@@ -13,6 +13,7 @@ use Rattle.grammar.specs.Reading.{stop}
 use Rattle.grammar.specs.Files.{Line, Well-file, lines-text}
 use Rattle.grammar.specs.TableText.{table-text}
 use Rattle.grammar.specs.RoundTrip.{Read-back, reading, Gives}
+use Rattle.grammar.specs.Places.{Placed}
 use Rattle.rules.specs.declared.table.Table.{Table}
 
 abbrev pub nodes-of : Table → List Node
@@ -37,3 +38,8 @@ Answers text (Err f) = reading text ≡ stop f
 abbrev pub Accepts : List ℕ → Result Table ReadFault → Type 0
 Accepts text (Ok t) = Read-back text (rules-of t) (entries-of t) × (text ≡ text-of t)
 Accepts text (Err f) = (ls : List Line) → Well-file ls → text ≡ lines-text ls → ⊥
+
+-- a fault stands at the item that no accepted text has there, or past the end
+abbrev pub Places : List ℕ → Result Table ReadFault → Type 0
+Places text (Ok t) = Unit {0}
+Places text (Err f) = Placed text f

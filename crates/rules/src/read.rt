@@ -6,7 +6,7 @@ ghost use Rattle.std.specs.Of.Vec.{vec-items, vec-cap};
 ghost use Rattle.std.specs.Vec.{made};
 ghost use Rattle.grammar.specs.Entries.{entry-of};
 ghost use Rattle.grammar.specs.Formed.{Formed};
-ghost use Rattle.rules.specs.Tables.{nodes-of, rules-of, Answers, Accepts};
+ghost use Rattle.rules.specs.Tables.{nodes-of, rules-of, Answers, Accepts, Places};
 use crate::reader::Reader;
 use crate::table::Table;
 use grammar::fault::FaultKind;
@@ -42,6 +42,7 @@ impl Table {
     pub fn read(self, text: &[u8]) -> Result<Table, ReadFault>
         ensures answer { λ r. ⌜ Answers (now (text .entry)) r ⌝ }
         ensures law { λ r. ⌜ Accepts (now (text .entry)) r ⌝ }
+        ensures place { λ r. ⌜ Places (now (text .entry)) r ⌝ }
     {
         let Table {
             mut nodes,
