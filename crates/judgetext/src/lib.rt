@@ -1,0 +1,2 @@
+//! The judge's whole job on text.
+pub mod text;
