@@ -8,7 +8,6 @@ use Rattle.std.specs.declared.result.Result.{Result}
 use Rattle.std.specs.declared.result.Result.the-variants.{Ok, Err}
 use Rattle.std.specs.declared.option.Option.{Option}
 use Rattle.std.specs.declared.option.Option.the-variants.{Some, None}
-use Rattle.std.specs.Options.{isSome}
 use Rattle.std.proofs.shelf.Tests.{both-ways}
 use Rattle.std.proofs.shelf.Ways.{tells}
 use Rattle.store.specs.declared.facts.Fact.{Fact}
@@ -31,6 +30,7 @@ use Rattle.std.proofs.shelf.Lists.{getD-append-left, getD-push, map-append}
 use Rattle.std.proofs.shelf.Maps.{nth-getD}
 use Rattle.std.proofs.shelf.Tests.{cases-lt, cases-eq, ltb-true}
 use Rattle.syntax.specs.declared.Node.{Node}
+use Rattle.rules.specs.declared.table.Table.{Table}
 use Rattle.rules.specs.Tables.{nodes-of}
 use Rattle.query.specs.Rows.{row-of}
 use Rattle.history.specs.Histories.{State, stamps, facts-at, Rises}
@@ -38,6 +38,7 @@ use Rattle.store.specs.Facts.{rising}
 use Rattle.session.specs.Values.{latest, later-than}
 use Rattle.session.specs.Book.{Book, feed, fed, new-book, Run, rest, then, Opened, Past, book-of, Holds-current, Brings-back}
 use Rattle.session.proofs.Stamps.{rises-more}
+use Rattle.session.proofs.Counts.{how-altered}
 use Rattle.session.proofs.Replays.{replay-snoc}
 use Rattle.session.proofs.Meanings.{put-new, put-ok, sound-put, sound-drop, sound-replay, put-idle, put-undone, drop-idle, drop-undone}
 
@@ -208,6 +209,9 @@ along : {v w : View} {es : List Event} (b : Book) → Run v es w → Tied v b �
 along b rest t = t
 along b (then {v} {w} {x} {e} d r) t = along (feed b e) r (advance v w e b d t)
 
+pub just-opened : (t : Table) (n : ℕ) (m : Meaning) → Lawful m → Opened (view.opened t n m)
+just-opened t n m sound = record { sound = sound; shut = refl; fresh = refl; unstamped = refl; unrowed = refl; running = refl }
+
 opened-tied : (o : View) → Opened o → Tied o (new-book (o .store .facts))
 opened-tied o p = record {
   agrees = record { current = refl; kept = λ c. absurd (both-ways _ (p .shut) c); stamps = p .unstamped; rows = p .unrowed; finished = sym (p .running) };
@@ -225,7 +229,14 @@ pub holds-current : (v : View) → Holds-current v
 holds-current v past = sym (tied past .agrees .current)
 
 -- a withdraw that answers a number
-pub brings-back : (v w : View) (s : Slip) (r : Option ℕ) → Did v (view.withdrew s r) w → isSome r ≡ true → Brings-back v w
-brings-back v w s (Some n) d answered past =
-    ap (λ (x : View). x .store .facts) (d .after) ∙ sym (tied past .agrees .kept (withdraw-open v s n (d .answer)))
-brings-back v w s None d answered past = absurd (both-ways _ refl answered)
+answered-count : (v : View) (s : Slip) (n : ℕ) → Some n ≡ view.withdraw-reply v s → n ≡ length (v .undo)
+answered-count v s n e = grind (arith, e)
+
+pub brings-back : (v w : View) (s : Slip) (r : Option ℕ) → Did v (view.withdrew s r) w → Brings-back v r w
+brings-back v w s None d = tt
+brings-back v w s (Some n) d = λ past.
+    let opened = withdraw-open v s n (d .answer) in
+    record {
+      set = ap (λ (x : View). x .store .facts) (d .after) ∙ sym (tied past .agrees .kept opened);
+      undone = answered-count v s n (d .answer) ∙ how-altered past opened;
+    }

@@ -2,8 +2,9 @@
 use mathlib.Core.Path.{_≡_}
 use mathlib.Core.Bool.{Bool, true, false}
 use mathlib.Core.List.{List, [], _∷_, _++_, map}
-use Prim.Native.Nat.{ℕ}
+use Prim.Native.Nat.{ℕ, _+_}
 use Rattle.std.specs.declared.result.Result.the-variants.{Ok, Err}
+use Rattle.std.specs.declared.option.Option.{Option}
 use Rattle.std.specs.declared.option.Option.the-variants.{Some, None}
 use Rattle.store.specs.declared.facts.Fact.{Fact}
 use Rattle.store.specs.Facts.{with-fact, without-fact}
@@ -17,14 +18,14 @@ pub record Book : Type 0 where
   pub states : List State
   pub finished : Bool
 
--- a new book: the store's facts as they were found, twice, and no states
+-- at opening both sets are the facts found in the store
 abbrev pub new-book : List Fact → Book
 new-book s = record { current = s; kept = s; states = []; finished = false }
 
 abbrev pub with-current : List Fact → Book → Book
 with-current s b = record { current = s; kept = b .kept; states = b .states; finished = b .finished }
 
--- what each call writes into the book; where it was refused, asked, or withdrew nothing, that is nothing
+-- a refused call, a withdraw that answers none and a question leave the book as it is
 abbrev pub feed : Book → Event → Book
 feed b (began (Ok slip)) = record { current = b .current; kept = b .current; states = b .states; finished = b .finished }
 feed b (began (Err fault)) = b
@@ -78,6 +79,30 @@ pub record Pasts : Type 0 where
 abbrev pub Holds-current : View → Type 0
 Holds-current v = (past : Past v) → v .store .facts ≡ book-of past .current
 
--- and a withdraw that was the open change's has restored the set from before its begin
-abbrev pub Brings-back : View → View → Type 0
-Brings-back v w = (past : Past v) → w .store .facts ≡ book-of past .kept
+-- how many alterations the open change has, by its calls: the puts and drops since begin that answered 1
+abbrev pub counted : ℕ → Event → ℕ
+counted n (began (Ok slip)) = 0
+counted n (began (Err fault)) = n
+counted n (put slip f (Ok true)) = n + 1
+counted n (put slip f (Ok false)) = n
+counted n (put slip f (Err fault)) = n
+counted n (dropped slip f (Ok true)) = n + 1
+counted n (dropped slip f (Ok false)) = n
+counted n (dropped slip f (Err fault)) = n
+counted n (committed slip stamp answer) = n
+counted n (withdrew slip answer) = n
+counted n (ended answer) = n
+counted n (asked rule state answer) = n
+
+abbrev pub count-of : ℕ → List Event → ℕ
+count-of n [] = n
+count-of n (e ∷ es) = count-of (counted n e) es
+
+-- a withdraw that answers a number has brought back the set that stood at begin, and the number is that of the alterations
+pub record Brought-back (b : Book) (calls : List Event) (count : ℕ) (w : View) : Type 0 where
+  pub set : w .store .facts ≡ b .kept
+  pub undone : count ≡ count-of 0 calls
+
+abbrev pub Brings-back : View → Option ℕ → View → Type 0
+Brings-back v None w = Unit {0}
+Brings-back v (Some count) w = (past : Past v) → Brought-back (book-of past) (past .calls) count w

@@ -1,7 +1,5 @@
 //! The changes of a session.
 ghost use mathlib.Core.Path.{_≡_};
-ghost use mathlib.Core.Bool.{true};
-ghost use Rattle.std.specs.Options.{isSome};
 ghost use Rattle.store.specs.Stores.{put-answer, after-put};
 ghost use Rattle.session.specs.Book.{Brings-back};
 ghost use Rattle.session.specs.Refusals.{smallest};
@@ -148,9 +146,12 @@ impl<'t, S: Store> Session<'t, S> {
     /// Restores the set from before the change began, and says how many alterations that took.
     /// With a slip that is not the open change's it answers none and changes nothing; the slip is used up.
     /// Cost: a put or a drop of the store for each alteration.
+    ///
+    /// Clause `book`: whatever was called since the opening, the set is the book's kept set, and the number that of the
+    /// puts and drops since begin that answered true.
     pub fn withdraw(&mut self, slip: Slip) -> Option<usize>
         ensures answer { λ r. ⌜ Did (view (S·Store .meaning) (now (self .entry))) (withdrew slip r) (view (S·Store .meaning) (now (self .exit))) ⌝ }
-        ensures book { λ r. ⌜ (isSome r ≡ true → Brings-back (view (S·Store .meaning) (now (self .entry))) (view (S·Store .meaning) (now (self .exit)))) ⌝ }
+        ensures book { λ r. ⌜ Brings-back (view (S·Store .meaning) (now (self .entry))) r (view (S·Store .meaning) (now (self .exit))) ⌝ }
     {
         self.taken_back(slip)
     }

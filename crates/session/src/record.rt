@@ -21,6 +21,12 @@ impl<'t, S: Store> Session<'t, S> {
         ensures first { λ r. ⌜ Opened (view (S·Store .meaning) r) ⌝ }
         ensures pasts { λ _. ⌜ Pasts ⌝ }
     {
+        Session::fresh(store, table, number, room)
+    }
+
+    fn fresh(store: S, table: &'t Table, number: u16, room: Room) -> Self
+        ensures { λ r. ⌜ view (S·Store .meaning) r ≡ opened (now (table .entry)) number (S·Store .meaning store) ⌝ }
+    {
         let Room {
             steps,
             stamps,

@@ -1,17 +1,12 @@
-use borrow.Author.Needs.{needs}
+use mathlib.Core.Path.{sym, subst}
+use Rattle.session.specs.Book.{Opened}
+use Rattle.session.proofs.Books.{just-opened}
 use Rattle.session.proofs.Laws.{pasts}
 use Rattle.session.proofs.session.Session.open.Needs as need
 
 pub returns : need.returns
 returns g c = record {
-  after = search needs;
-  first = record {
-    sound = g .S·Store·met .lawful (c .args .store);
-    shut = search needs;
-    fresh = search needs;
-    unstamped = search needs;
-    unrowed = search needs;
-    running = search needs;
-  };
+  after = c .fresh .ensures;
+  first = subst Opened (sym (c .fresh .ensures)) (just-opened (c .args .table .now) (c .args .number) _ (g .S·Store·met .lawful (c .args .store)));
   pasts = pasts;
 }
