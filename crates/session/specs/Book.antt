@@ -18,14 +18,14 @@ pub record Book : Type 0 where
   pub states : List State
   pub finished : Bool
 
--- at opening both sets are the facts found in the store
+-- a new book: the store's facts as they were found, twice, and no states
 abbrev pub new-book : List Fact → Book
 new-book s = record { current = s; kept = s; states = []; finished = false }
 
 abbrev pub with-current : List Fact → Book → Book
 with-current s b = record { current = s; kept = b .kept; states = b .states; finished = b .finished }
 
--- a refused call, a withdraw that answers none and a question leave the book as it is
+-- what each call writes into the book; where it was refused, asked, or withdrew nothing, that is nothing
 abbrev pub feed : Book → Event → Book
 feed b (began (Ok slip)) = record { current = b .current; kept = b .current; states = b .states; finished = b .finished }
 feed b (began (Err fault)) = b
@@ -98,7 +98,7 @@ abbrev pub count-of : ℕ → List Event → ℕ
 count-of n [] = n
 count-of n (e ∷ es) = count-of (counted n e) es
 
--- a withdraw that answers a number has brought back the set that stood at begin, and the number is that of the alterations
+-- what a withdraw of the open change has done: the set is the one from before its begin, and the number is how many alterations that undid
 pub record Brought-back (b : Book) (calls : List Event) (count : ℕ) (w : View) : Type 0 where
   pub set : w .store .facts ≡ b .kept
   pub undone : count ≡ count-of 0 calls
