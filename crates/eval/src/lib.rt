@@ -1,8 +1,8 @@
 //! The truth of a table's nodes over the states of a record, for every truth kind.
-pub mod column;
+mod column;
 pub mod evaluator;
 pub mod leaves;
 pub mod misfit;
-pub mod operators;
-pub mod reading;
+mod operators;
+mod reading;
 pub mod windows;

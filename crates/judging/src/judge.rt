@@ -2,6 +2,7 @@
 ghost use mathlib.Core.Path.{_≡_};
 ghost use mathlib.Core.Bool.{true, false};
 ghost use Prim.Native.Nat.{ℕ, _<_, _≤_};
+ghost use lib.Dec.{ltb};
 ghost use lib.ListN.{length};
 ghost use Rattle.std.specs.Of.Vec.{vec-cap, vec-items};
 ghost use Rattle.truth.specs.Kleene.{plain};
@@ -97,6 +98,13 @@ impl Workspace {
 }
 
 impl Judged<'_> {
+    /// Whether the record has that state.
+    pub fn has_state(&self, state: usize) -> bool
+        ensures { λ r. ⌜ r ≡ ltb state (length (case-of (now (self .entry)) .stamps)) ⌝ }
+    {
+        state < self.stamps.len()
+    }
+
     /// The plain truth of a rule at a state. Cost: the rules once.
     pub fn truth(&self, rule: u8, state: usize) -> Result<bool, JudgeFault>
         ensures { λ r. ⌜ r ≡ case-answer (case-of (now (self .entry))) rule state ⌝ }
@@ -104,7 +112,7 @@ impl Judged<'_> {
         let Some(m) = self.table.root(rule) else {
             return Err(JudgeFault::UnknownRule);
         };
-        if state >= self.stamps.len() {
+        if !self.has_state(state) {
             return Err(JudgeFault::NoSuchState);
         }
         Ok(self.values[state * self.table.nodes().len() + m])
