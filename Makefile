@@ -7,4 +7,13 @@ run:
 test:
 	.ci/run
 
-.PHONY: run test
+# A small survey flight on the whole library.
+flight:
+	rt check flight
+	cd crates/flight/data && ../../../target/bin/flight
+
+# The benchmark beside a plain Rust program that does the same work.
+bench:
+	bench/run
+
+.PHONY: run test flight bench
