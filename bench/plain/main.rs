@@ -68,13 +68,13 @@ fn time_session(table: &Table) {
         questions += start.elapsed().as_nanos();
     }
     let [no, open, yes] = verdicts;
-    println!("session: {} facts, {no} false, {open} undecided, {yes} true", session.store.count());
+    println!("session: {no} false, {open} undecided, {yes} true");
     eprintln!("commits: {}", commits / 1_000);
     eprintln!("verdicts: {}", questions / 1_000);
 }
 
 fn time_judge(table: &Table) {
-    let mut generator = Generator::new(3);
+    let mut generator = Generator::new(4);
     let (mut stamps, mut rows) = (Vec::new(), Vec::new());
     let mut stamp = 0;
     for _ in 0..512 {

@@ -10,7 +10,7 @@ pub struct Work {
     pub count: usize,
 }
 
-fn random_fact(generator: &mut Generator, keys: usize, values: usize) -> Fact {
+pub fn random_fact(generator: &mut Generator, keys: usize, values: usize) -> Fact {
     let relation = (generator.below(16) & 0xff) as u8;
     let key = (generator.below(keys) & 0xffff) as u32;
     let value = (generator.below(values) & 0xffff) as i32;
