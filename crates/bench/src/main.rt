@@ -1,5 +1,6 @@
 //! Measures the calls of the package. What it writes to standard output is the work done, the same at every run;
 //! times, in microseconds, go to standard error.
+#![tactic(auto)]
 
 mod flight;
 mod judged;

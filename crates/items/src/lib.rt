@@ -1,4 +1,5 @@
 //! Bytes cut into items: brackets, spaces, newlines, words and numbers, each with its place.
+#![tactic(auto)]
 pub mod cursor;
 mod cut;
 pub mod item;

@@ -1,2 +1,3 @@
 //! The judge's whole job on text.
+#![tactic(auto)]
 pub mod text;

@@ -1,4 +1,5 @@
 //! The judge of finished records, which are given by stamps and rows of answers.
+#![tactic(auto)]
 pub mod judge;
 pub mod judged;
 pub mod refusal;

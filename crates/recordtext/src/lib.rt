@@ -1,4 +1,5 @@
 //! Records as text, and the lines that the judge writes.
+#![tactic(auto)]
 pub mod lines;
 pub mod reading;
 pub mod state;

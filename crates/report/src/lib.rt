@@ -1,4 +1,5 @@
 //! What the rule checker prints.
+#![tactic(auto)]
 mod append;
 mod excerpt;
 pub mod fault;

@@ -1,6 +1,7 @@
 //! Reads cases from standard input, one to a line: a name, what is expected, and a rule file in which `\n` stands for a
 //! newline and `\x` with two digits for any byte. Prints what is expected beside what came, and under a fault the report
 //! on it. A difference ends the run with status 1.
+#![tactic(auto)]
 mod case;
 mod escape;
 mod outcome;

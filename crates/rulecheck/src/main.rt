@@ -1,4 +1,5 @@
 //! Checks a rule file, from the path that is given or from standard input, and prints its rules or its first fault.
+#![tactic(auto)]
 use anyhow::anyhow;
 use report::report::report;
 use std::io::{Read, Write};

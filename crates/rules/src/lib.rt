@@ -1,4 +1,5 @@
 //! Tables of rules, and the reader that fills them.
+#![tactic(auto)]
 mod build;
 mod formula;
 mod make;

@@ -1,4 +1,5 @@
 //! Holds both stores to a set kept the plainest way, on random calls, and prints what was compared.
+#![tactic(auto)]
 
 mod full;
 mod model;

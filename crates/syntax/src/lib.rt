@@ -1,4 +1,5 @@
 //! The twenty forms of a rule as data: queries with their bounds, operators with the numbers of their operands and their windows.
+#![tactic(auto)]
 
 /// Distances from `low` to `high`, or without an upper bound.
 #[derive(Clone, Copy)]

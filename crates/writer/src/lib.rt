@@ -1,4 +1,5 @@
 //! The text of a table of rules, written into a buffer.
+#![tactic(auto)]
 mod arguments;
 pub mod fault;
 mod nodes;
