@@ -1,5 +1,6 @@
 //! A store with one bit for each fact that it takes.
 #![tactic(auto)]
+
 ghost use Rattle.std.specs.Prelude.{◌≡◌, ◌<◌, ◌≤◌, true, length, Err, MatchBool, ◌≢◌};
 ghost use Rattle.store.specs.declared.stores.StoreFault.TheVariants.{Full};
 ghost use Rattle.store.specs.Stores.{empty, put_answer, after_put};

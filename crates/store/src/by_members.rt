@@ -7,21 +7,21 @@ use crate::stores::{Store, StoreFault};
 
 /// Adds the fact and answers whether it was absent.
 pub fn put<S: Store>(store: &mut S, fact: Fact) -> Result<bool, StoreFault>
-    ensures { PutResult fact (meaning store.old) (meaning store.new) result }
+    ensures { PutResult fact (S.meaning store.old) (S.meaning store.new) result }
 {
     store.put(fact)
 }
 
 /// Removes the fact and answers whether it was present.
 pub fn drop_fact<S: Store>(store: &mut S, fact: Fact) -> bool
-    ensures { DropResult fact (meaning store.old) (meaning store.new) result }
+    ensures { DropResult fact (S.meaning store.old) (S.meaning store.new) result }
 {
     store.drop_fact(fact)
 }
 
 /// The first fact of the start's relation at or after the start.
 pub fn walk<S: Store>(store: &S, start: Fact) -> Option<Fact>
-    ensures { WalkResult start (meaning store.now).facts result }
+    ensures { WalkResult start (S.meaning store.now).facts result }
 {
     store.walk(start)
 }

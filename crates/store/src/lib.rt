@@ -3,6 +3,7 @@
 //! Sessions and queries are written against the trait `Store` alone. The crates `liststore` and `gridstore` have
 //! one store each.
 #![tactic(auto)]
+
 pub mod by_members;
 mod facts;
 mod stores;

@@ -5,8 +5,8 @@ use Rattle.gridstore.proofs.ones_of.Goals as goal
 pub loop-word-init : goal.loop-word-init
 loop-word-init c = omega arith
 
-pub overflow-add-total : goal.overflow-add-total
-overflow-add-total c =
+pub overflow_add-total : goal.overflow_add-total
+overflow_add-total c =
     let ws = c.args.words.now in
     let fits : Fits w64 (get_or ws c.loop-word.word-index 0) = search rules in
     let more = count_more ws c.loop-word.word-index (omega arith) fits.fits in

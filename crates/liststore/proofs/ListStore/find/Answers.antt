@@ -4,20 +4,20 @@ use Rattle.store.specs.Facts.{same}
 use Rattle.liststore.specs.PlacesLemmas.{found_at, absent_here, nth_none, nth_is}
 use Rattle.liststore.proofs.ListStore.find.Goals as goal
 
-pub returns-in-default : goal.returns-in-default
-returns-in-default c =
+pub returns-in_default : goal.returns-in_default
+returns-in_default c =
     let s = c.args.self.now in
-    absent_here c.args.fact s.facts.items c.place-of-at.result c.args.fact s.ordered c.place-of-at.ensures.is
-    (λ h. absurd (nth_none s.facts.items c.place-of-at.result (sym c.in-default.ensures) h))
+    absent_here c.args.fact s.facts.items c.place_of-at.result c.args.fact s.ordered c.place_of-at.ensures.is
+    (λ h. absurd (nth_none s.facts.items c.place_of-at.result (sym c.in_default.ensures) h))
 
-pub returns-then-is-same : goal.returns-then-is-same
-returns-then-is-same c =
+pub returns-then-is_same : goal.returns-then-is_same
+returns-then-is_same c =
     let s = c.args.self.now in
-    found_at c.args.fact s.facts.items c.place-of-at.result c.in-Some.found s.ordered c.place-of-at.ensures.is (sym c.in-Some.ensures) (sym c.if-is-same.ensures.answer)
+    found_at c.args.fact s.facts.items c.place_of-at.result c.in-Some.found s.ordered c.place_of-at.ensures.is (sym c.in-Some.ensures) (sym c.if-is_same.ensures.answer)
 
-pub returns-else-is-same : goal.returns-else-is-same
-returns-else-is-same c =
+pub returns-else-is_same : goal.returns-else-is_same
+returns-else-is_same c =
     let s = c.args.self.now in
-    let here = nth_is s.facts.items c.place-of-at.result c.in-Some.found (sym c.in-Some.ensures) in
-    absent_here c.args.fact s.facts.items c.place-of-at.result c.in-Some.found s.ordered c.place-of-at.ensures.is
-    (λ _. subst (λ (x : Fact). same c.args.fact x ≡ false) here (sym c.if-is-same.ensures.answer))
+    let here = nth_is s.facts.items c.place_of-at.result c.in-Some.found (sym c.in-Some.ensures) in
+    absent_here c.args.fact s.facts.items c.place_of-at.result c.in-Some.found s.ordered c.place_of-at.ensures.is
+    (λ _. subst (λ (x : Fact). same c.args.fact x ≡ false) here (sym c.if-is_same.ensures.answer))
