@@ -1,5 +1,6 @@
 //! Bytes cut into items: brackets, spaces, newlines, words and numbers, each with its place.
 #![tactic(auto)]
+
 pub mod cursor;
 mod cut;
 pub mod item;
