@@ -6,9 +6,9 @@ use Rattle.recordtext.proofs.Spelling.{decimal_some_text, decimal_no_plus, decim
 use Rattle.recordtext.proofs.reading.natural.Goals as goal
 use Rattle.recordtext.proofs.reading.natural.Goals.{else-digits-eq48-via-then-digits-eq48+else-digits-gt1, else-digits-eq48-via-else-digits-eq48}
 
-pub returns-then-is-empty : goal.returns-then-is-empty
-returns-then-is-empty c n small is =
-    let none : length c.args.digits.now ≡ 0 = eqb-true _ 0 (sym c.is-empty.ensures ∙ c.if-is-empty.true) in
+pub returns-then-is_empty : goal.returns-then-is_empty
+returns-then-is_empty c n small is =
+    let none : length c.args.digits.now ≡ 0 = eqb-true _ 0 (sym c.is_empty.ensures ∙ c.if-is_empty.true) in
     omega (arith, decimal_some_text n _ small is)
 
 pub returns-then-digits-eq43 : goal.returns-then-digits-eq43
@@ -20,7 +20,7 @@ returns-then-digits-gt1 c n small is = decimal_no_zero n _ small is c.if-digits-
 pub returns-in-Ok : goal.returns-in-Ok
 returns-in-Ok c =
     let ds = c.args.digits.now in
-    let empty = eqb-false (length ds) 0 (sym c.is-empty.ensures ∙ c.if-is-empty.false) in
+    let empty = eqb-false (length ds) 0 (sym c.is_empty.ensures ∙ c.if-is_empty.false) in
     let some : 0 < length ds = omega (arith, empty) in
     let alone : get_or ds 0 0 ≡ 48 → length ds ≡ 1 =
     λ zero.

@@ -18,8 +18,8 @@ loop-at-init c =
 pub loop-at-preserved : goal.loop-at-preserved
 loop-at-preserved c =
     let line = c.in-Some.ensures in
-    let pt = pushed c.push.result _ _ _ (sym c.is-err.ensures.value ∙ c.if-is-err.false) c.push.ensures.items in
-    let pw = pushed c.push-else-is-err.result _ _ _ (sym c.is-err-else-is-err.ensures.value ∙ c.if-is-err-2.false) c.push-else-is-err.ensures.items in (
+    let pt = pushed c.push.result _ _ _ (sym c.is_err.ensures.value ∙ c.if-is_err.false) c.push.ensures.items in
+    let pw = pushed c.push-else-is_err.result _ _ _ (sym c.is_err-else-is_err.ensures.value ∙ c.if-is_err-2.false) c.push-else-is_err.ensures.items in (
       line_within c.args.text.now c.loop-at.at c.in-Some.line.length c.loop-at-test.true line.2,
       lines_paired c.args.text.now _ _ _ _ c.loop-at.at c.in-Some.line.length _ _ c.loop-at.invariant.1 c.loop-at.invariant.4 pt pw,
       subst Small (sym pt) (small_push _ _ line.3.0 c.loop-at.invariant.2),
@@ -27,10 +27,10 @@ loop-at-preserved c =
       lines_more c.args.text.now _ _ _ _ c.loop-at.at c.in-Some.line.length _ _ c.loop-at.invariant.1 c.loop-at.invariant.4 pt pw line.0 line.2,
     )
 
-pub returns-in-default : goal.returns-in-default
-returns-in-default c =
+pub returns-in_default : goal.returns-in_default
+returns-in_default c =
     bad_here c.args.text.now _ _ c.loop-at.at _ c.loop-at-test.true c.loop-at.invariant.1 c.loop-at.invariant.2 c.loop-at.invariant.3 c.loop-at.invariant.4
-    c.in-default.ensures (c.len.ensures ∙ c.loop-at.stamps.ok.0)
+    c.in_default.ensures (c.len.ensures ∙ c.loop-at.stamps.ok.0)
 
 pub returns : goal.returns
 returns c = (

@@ -13,16 +13,16 @@ returns-then-space-close c t w ts ws is =
       | then-space-close-via-else-space-close+then-close-text way ↦ way.if-close-text.true (omega arith)
     ]
 
-pub returns-in-default : goal.returns-in-default
-returns-in-default c t w ts ws is =
+pub returns-in_default : goal.returns-in_default
+returns-in_default c t w ts ws is =
     let s = space_at c.args.text.now t w ts ws is c.find-space.result c.find-space.ensures.within c.find-space.ensures.before c.find-space.ensures.found in
-    c.in-default.ensures t ts (first_number c.args.text.now t w ts ws is c.find-space.result s)
+    c.in_default.ensures t ts (first_number c.args.text.now t w ts ws is c.find-space.result s)
 
-pub returns-in-default-natural : goal.returns-in-default-natural
-returns-in-default-natural c t w ts ws is =
+pub returns-in_default-natural : goal.returns-in_default-natural
+returns-in_default-natural c t w ts ws is =
     let s = space_at c.args.text.now t w ts ws is c.find-space.result c.find-space.ensures.within c.find-space.ensures.before c.find-space.ensures.found in
     let e = close_at c.args.text.now t w ts ws is c.find-close.result c.find-close.ensures.within c.find-close.ensures.before c.find-close.ensures.found in
-    c.in-default-natural.ensures w ws (second_number c.args.text.now t w ts ws is c.find-space.result c.find-close.result s e)
+    c.in_default-natural.ensures w ws (second_number c.args.text.now t w ts ws is c.find-space.result c.find-close.result s e)
 
 pub returns : goal.returns
 returns c =
