@@ -167,8 +167,8 @@ opening_ok : (l : ℕ) (f : Form) (s : State) (r : List Token) → s.opened < 64
 opening_ok l f s r lt e =
     let o = next_plain kind.Open s (plain (kind.Form f) ∷ r) refl e in
     let w = first o.rest (plain (kind.Form f)) r o.are in
-    let k = kind_plain w.item.kind w.item.number (kind.Form f) w.is-token in
-    let n = next_ok word f (counted (left s o.rest)) w.item w.rest w.is-first (ap form_of k) in
+    let k = kind_plain w.item.kind w.item.number (kind.Form f) w.is_token in
+    let n = next_ok word f (counted (left s o.rest)) w.item w.rest w.is_first (ap form_of k) in
     let z : 0 < suc l = omega arith in
     record { rest = w.rest; reads = opening_then (suc l) f s (left s o.rest) _ o.reads (and_true _ _ (lt-ltb 0 (suc l) z) (lt-ltb s.opened 64 lt)) n; are = w.are }
 

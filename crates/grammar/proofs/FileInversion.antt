@@ -54,7 +54,7 @@ ruled least s r t h =
     let a = both (next (is kind.Rule) s) _ r t h in
     let b = both (next (is kind.Space) a.state) _ r t a.then_done in
     let c = both (rule_number least b.state) _ r t b.then_done in
-    let d = both (next (is kind.Space) c.state) _ r t c.then-done in
+    let d = both (next (is kind.Space) c.state) _ r t c.then_done in
     let e = both (formula 12 d.state) _ r t d.then_done in
     let f = both (next (is kind.Close) e.state) _ r t e.then_done in
     let g = both (next (is kind.Newline) f.state) _ r t f.then_done in
@@ -79,7 +79,7 @@ ruled least s r t h =
     let os : d.state.opened ≡ s.opened = ap (λ u. u.opened) pd.after ∙ ap (λ u. u.opened) pc.after ∙ ap (λ u. u.opened) pb.after ∙ ap (λ u. u.opened) pa.after in
     let gn : g.state.nodes ≡ e.state.nodes = ap (λ u. u.nodes) pg.after ∙ ap (λ u. u.nodes) pf.after in
     let go : g.state.opened ≡ e.state.opened = ap (λ u. u.opened) pg.after ∙ ap (λ u. u.opened) pf.after in
-    ruled_same least s (rule_of (mag c.value.number) e.value) r g.state t g.then-done (record {
+    ruled_same least s (rule_of (mag c.value.number) e.value) r g.state t g.then_done (record {
       tree = m.tree;
       fit = small.0;
       well = m.well;
@@ -130,7 +130,7 @@ lines_more k ih least s (it ∷ items) e rs t h =
     let bn : b.state.nodes ≡ nodes_after s.nodes l.tree = l.nodes ∙ ap (λ u. nodes_after u l.tree) ns in
     let line : Line = record { number = b.value.number; tree = l.tree } in
     let root : b.value ≡ rule_of b.value.number (length s.nodes + inside l.tree) = ap (rule_of b.value.number) (l.root ∙ ap (λ u. length u + inside l.tree) ns) in
-    lines_same (suc k) least s (b.value ∷ c.value) rs c.state t c.then-done (record {
+    lines_same (suc k) least s (b.value ∷ c.value) rs c.state t c.then_done (record {
       lines = line ∷ m.lines;
       well = (l.fit, l.well, m.well);
       was = p.was ∙ ap (λ u. plain kind.Open ∷ u) (sym ra ∙ l.was ∙ ap (λ u. plain kind.Rule ∷ plain kind.Space ∷ number (pos b.value.number) ∷ plain kind.Space ∷ tree_tokens l.tree (plain kind.Close ∷ plain kind.Newline ∷ u)) m.was);

@@ -327,10 +327,10 @@ module _ (levels : ℕ) (ih : Induct levels) where
           well = (a, hd.fit);
           was = hd.was ∙ ap (head_tokens f xs) c.was;
           number = omega (arith, c.number ∙ ap length h_nodes);
-          past = ap (λ v. v.past) c.after-close ∙ h_past;
-          opened = ap (λ v. v.opened) c.after-close ∙ h_opened;
-          nodes = ap (λ v. v.nodes) c.after-close ∙ ap (λ v. v ++ (entry f xs [] ∷ [])) h_nodes;
-          few = let e : t.opened ≡ s.opened + 1 = ap (λ v. v.opened) c.after-close ∙ h_opened in omega (arith, e, hd.lt);
+          past = ap (λ v. v.past) c.after_close ∙ h_past;
+          opened = ap (λ v. v.opened) c.after_close ∙ h_opened;
+          nodes = ap (λ v. v.nodes) c.after_close ∙ ap (λ v. v ++ (entry f xs [] ∷ [])) h_nodes;
+          few = let e : t.opened ≡ s.opened + 1 = ap (λ v. v.opened) c.after_close ∙ h_opened in omega (arith, e, hd.lt);
         }
 
     unary_read : arity f ≡ One → (a : ℕ) (v : State) → Operand levels u a v → closing (entry f xs (a ∷ [])) v ≡ done n t → Formula (suc levels) s n t
@@ -343,10 +343,10 @@ module _ (levels : ℕ) (ih : Induct levels) where
           well = ((ar, hd.fit), o.well);
           was = hd.was ∙ ap (head_tokens f xs) (o.was ∙ ap (λ w. plain kind.Space ∷ tree_tokens o.tree w) c.was);
           number = c.number ∙ ap length vn ∙ length_after s.nodes o.tree;
-          past = ap (λ w. w.past) c.after-close ∙ o.past ∙ h_past;
-          opened = ap (λ w. w.opened) c.after-close ∙ omega (arith, o.opened, h_opened);
-          nodes = ap (λ w. w.nodes) c.after-close ∙ ap (λ w. w ++ (entry f xs (a ∷ []) ∷ [])) vn ∙ ap (λ w. nodes_after s.nodes o.tree ++ (entry f xs (w ∷ []) ∷ [])) an;
-          few = let e : t.opened ≡ v.opened = ap (λ x. x.opened) c.after-close in omega (arith, e, o.few);
+          past = ap (λ w. w.past) c.after_close ∙ o.past ∙ h_past;
+          opened = ap (λ w. w.opened) c.after_close ∙ omega (arith, o.opened, h_opened);
+          nodes = ap (λ w. w.nodes) c.after_close ∙ ap (λ w. w ++ (entry f xs (a ∷ []) ∷ [])) vn ∙ ap (λ w. nodes_after s.nodes o.tree ++ (entry f xs (w ∷ []) ∷ [])) an;
+          few = let e : t.opened ≡ v.opened = ap (λ x. x.opened) c.after_close in omega (arith, e, o.few);
         }
 
     binary_read : arity f ≡ Two → (a : ℕ) (v : State) → Operand levels u a v → (b : ℕ) (w : State) → Operand levels v b w → closing (entry f xs (a ∷ b ∷ [])) w ≡ done n t → Formula (suc levels) s n t
@@ -361,10 +361,10 @@ module _ (levels : ℕ) (ih : Induct levels) where
           well = ((ar, hd.fit), o.well, q.well);
           was = hd.was ∙ ap (head_tokens f xs) (o.was ∙ ap (λ x. plain kind.Space ∷ tree_tokens o.tree x) (q.was ∙ ap (λ x. plain kind.Space ∷ tree_tokens q.tree x) c.was));
           number = c.number ∙ ap length wn ∙ length_after (nodes_after s.nodes o.tree) q.tree ∙ omega (arith, length_after s.nodes o.tree);
-          past = ap (λ x. x.past) c.after-close ∙ q.past ∙ o.past ∙ h_past;
-          opened = ap (λ x. x.opened) c.after-close ∙ omega (arith, q.opened, o.opened, h_opened);
-          nodes = ap (λ x. x.nodes) c.after-close ∙ ap (λ x. x ++ (entry f xs (a ∷ b ∷ []) ∷ [])) wn ∙ ap (λ x. nodes_after (nodes_after s.nodes o.tree) q.tree ++ (entry f xs (x ∷ b ∷ []) ∷ [])) an ∙ ap (λ x. nodes_after (nodes_after s.nodes o.tree) q.tree ++ (entry f xs ((length s.nodes + inside o.tree) ∷ x ∷ []) ∷ [])) bn;
-          few = let e : t.opened ≡ w.opened = ap (λ x. x.opened) c.after-close in omega (arith, e, q.few);
+          past = ap (λ x. x.past) c.after_close ∙ q.past ∙ o.past ∙ h_past;
+          opened = ap (λ x. x.opened) c.after_close ∙ omega (arith, q.opened, o.opened, h_opened);
+          nodes = ap (λ x. x.nodes) c.after_close ∙ ap (λ x. x ++ (entry f xs (a ∷ b ∷ []) ∷ [])) wn ∙ ap (λ x. nodes_after (nodes_after s.nodes o.tree) q.tree ++ (entry f xs (x ∷ b ∷ []) ∷ [])) an ∙ ap (λ x. nodes_after (nodes_after s.nodes o.tree) q.tree ++ (entry f xs ((length s.nodes + inside o.tree) ∷ x ∷ []) ∷ [])) bn;
+          few = let e : t.opened ≡ w.opened = ap (λ x. x.opened) c.after_close in omega (arith, e, q.few);
         }
 
     by_arity : (k : Arity) → arity f ≡ k → (os : List ℕ) (v : State) → operands (formula levels) k u ≡ done os v → closing (entry f xs os) v ≡ done n t → Formula (suc levels) s n t

@@ -48,7 +48,7 @@ fitting (slot ∷ more) before s f t e =
     let a = both (next (is Space) s) _ f t e in
     let b = both (next (argument slot before) a.state) _ f t a.then_done in
     let c = both (arguments more b.value.number b.state) _ f t b.then_done in
-    fitting_same (slot ∷ more) (b.value ∷ c.value) f c.state t c.then-done (argument_fits slot before a.state b.value b.state b.first, fitting more b.value.number b.state c.value c.state c.first)
+    fitting_same (slot ∷ more) (b.value ∷ c.value) f c.state t c.then_done (argument_fits slot before a.state b.value b.state b.first, fitting more b.value.number b.state c.value c.state c.first)
 
 -- a form has at most three arguments
 pub slots_few : (f : Form) → length (slots f) ≤ 3
