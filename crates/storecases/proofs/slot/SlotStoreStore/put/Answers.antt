@@ -9,7 +9,7 @@ returns-then-contains c =
     let s = c.args.self.now in
     let m = slot_meaning s.held in
     let rises = (slot_lawful s.held s.ranged).rises in
-    let taken = sym c.if-not-is-in-range.ensures in
+    let taken = sym c.if-not-is_in_range.ensures in
     let present = sym c.if-contains.ensures in
     record {
       answer = answer_present m c.args.fact rises taken present;
