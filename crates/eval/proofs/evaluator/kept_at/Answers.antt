@@ -19,4 +19,4 @@ kept_until {k = k} laws of n i x w a b lt is pl py pq =
 pub returns-in-Until : goal.returns-in-Until
 returns-in-Until g c =
     kept_until g.met.K.Truth.laws (value_at g.K.Truth.kind c.args.values.now c.args.nodes) c.args.states c.args.i c.args.node _ _ _
-    c.requires.within.0 c.in-Until.is c.requires.keeps c.value-of.ensures c.and.ensures
+    c.requires.within.0 c.in-Until.is c.requires.keeps c.value_of.ensures c.and.ensures

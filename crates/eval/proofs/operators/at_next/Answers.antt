@@ -7,4 +7,4 @@ pub returns-then-j-stamps : goal.returns-then-j-stamps
 returns-then-j-stamps g c =
     let k = g.K.Truth.kind in
     next_inside g.met.K.Truth.laws (timed k c.args.stamps.now c.args.pending) c.args.w (at k c.args.operand.now) c.args.i c.if-j-stamps.true
-    c.distance.ensures c.contains.ensures c.read.ensures c.only-if.ensures
+    c.distance.ensures c.contains.ensures c.read.ensures c.only_if.ensures

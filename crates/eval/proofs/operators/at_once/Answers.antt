@@ -10,7 +10,7 @@ loop-j-init g c =
     let laws = g.met.K.Truth.laws in
     let r = timed k c.args.stamps.now k.no in
     let h = at k c.args.operand.now in (
-      c.past-start-start.ensures.within,
+      c.past_start-start.ensures.within,
       subst (λ x. Back laws r c.args.w (lasting k (λ _. k.yes) h c.args.i) c.args.i (c.args.i + 1) x) (sym c.no-any.ensures) (past_start laws r c.args.w (lasting k (λ _. k.yes) h c.args.i) c.args.i),
     )
 
@@ -24,7 +24,7 @@ loop-j-preserved g c =
       past_turn laws r c.args.w (lasting k (λ _. k.yes) h c.args.i) c.args.i c.loop-j.j
           (omega arith) (omega arith) c.loop-j.invariant.1 c.distance.ensures c.contains.ensures
           (once_here laws r c.args.w h c.args.i c.loop-j.j c.read-here.ensures)
-          c.only-if.ensures c.or-any.ensures,
+          c.only_if.ensures c.or-any.ensures,
     )
 
 pub returns : goal.returns
@@ -33,5 +33,5 @@ returns g c =
     let laws = g.met.K.Truth.laws in
     let r = timed k c.args.stamps.now k.no in
     let h = at k c.args.operand.now in
-    past_end laws r c.args.w (lasting k (λ _. k.yes) h c.args.i) c.args.i c.loop-j.j c.past-start-start.result
-    c.requires.rises c.requires.within.0 (omega arith) c.loop-j.invariant.0 c.past-start-start.ensures.within c.past-start-start.ensures.beyond c.loop-j.invariant.1
+    past_end laws r c.args.w (lasting k (λ _. k.yes) h c.args.i) c.args.i c.loop-j.j c.past_start-start.result
+    c.requires.rises c.requires.within.0 (omega arith) c.loop-j.invariant.0 c.past_start-start.ensures.within c.past_start-start.ensures.beyond c.loop-j.invariant.1

@@ -11,7 +11,7 @@ loop-j-init g c =
     let r = timed k c.args.stamps.now k.no in
     let f = at k c.args.first.now in
     let h = at k c.args.second.now in (
-      c.past-start-start.ensures.within,
+      c.past_start-start.ensures.within,
       subst (λ x. Back laws r c.args.w (lasting k f h c.args.i) c.args.i (c.args.i + 1) x) (sym c.no-any.ensures) (past_start laws r c.args.w (lasting k f h c.args.i) c.args.i),
       c.yes-held.ensures ∙ since_start laws r c.args.w f c.args.i,
     )
@@ -27,7 +27,7 @@ loop-j-preserved g c =
       past_turn laws r c.args.w (lasting k f h c.args.i) c.args.i c.loop-j.j
           (omega arith) (omega arith) c.loop-j.invariant.1 c.distance.ensures c.contains.ensures
           (since_here laws r c.args.w f h c.args.i c.loop-j.j (omega arith) c.loop-j.invariant.2 refl c.turn-here.ensures.here)
-          c.only-if.ensures c.or-any.ensures,
+          c.only_if.ensures c.or-any.ensures,
       since_turn laws r c.args.w f c.args.i c.loop-j.j (omega arith) (omega arith) c.loop-j.invariant.2 refl c.turn-here.ensures.on,
     )
 
@@ -38,5 +38,5 @@ returns g c =
     let r = timed k c.args.stamps.now k.no in
     let f = at k c.args.first.now in
     let h = at k c.args.second.now in
-    past_end laws r c.args.w (lasting k f h c.args.i) c.args.i c.loop-j.j c.past-start-start.result
-    c.requires.rises c.requires.within.0 (omega arith) c.loop-j.invariant.0 c.past-start-start.ensures.within c.past-start-start.ensures.beyond c.loop-j.invariant.1
+    past_end laws r c.args.w (lasting k f h c.args.i) c.args.i c.loop-j.j c.past_start-start.result
+    c.requires.rises c.requires.within.0 (omega arith) c.loop-j.invariant.0 c.past_start-start.ensures.within c.past_start-start.ensures.beyond c.loop-j.invariant.1

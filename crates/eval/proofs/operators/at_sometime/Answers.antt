@@ -19,7 +19,7 @@ loop-j-preserved g c =
     let r = timed k c.args.stamps.now c.args.pending in
     let f = at k c.args.operand.now in
     future_turn laws r c.args.w f c.args.i c.loop-j.j
-    (omega arith) c.loop-j.invariant c.distance.ensures c.contains.ensures c.read-here.ensures c.only-if.ensures c.or-any.ensures
+    (omega arith) c.loop-j.invariant c.distance.ensures c.contains.ensures c.read-here.ensures c.only_if.ensures c.or-any.ensures
 
 pub returns : goal.returns
 returns g c =
@@ -29,6 +29,6 @@ returns g c =
     let f = at k c.args.operand.now in
     c.or.ensures
     ∙ ap₂ k.or
-    (future_end laws r c.args.w f c.args.i c.loop-j.j c.future-end-end.result
-    c.requires.rises (omega arith) (omega arith) c.future-end-end.ensures.from c.future-end-end.ensures.within c.future-end-end.ensures.beyond c.loop-j.invariant)
-    c.open-mark.ensures
+    (future_end laws r c.args.w f c.args.i c.loop-j.j c.future_end-end.result
+    c.requires.rises (omega arith) (omega arith) c.future_end-end.ensures.from c.future_end-end.ensures.within c.future_end-end.ensures.beyond c.loop-j.invariant)
+    c.open_mark.ensures

@@ -23,7 +23,7 @@ loop-j-preserved g c =
     let f = at k c.args.first.now in
     let h = at k c.args.second.now in (
       future_turn laws r c.args.w (reached k f h c.args.i) c.args.i c.loop-j.j
-          (omega arith) c.loop-j.invariant.0 c.distance.ensures c.contains.ensures (c.turn-here.ensures.here ∙ ap₂ k.and refl c.loop-j.invariant.1) c.only-if.ensures c.or-any.ensures,
+          (omega arith) c.loop-j.invariant.0 c.distance.ensures c.contains.ensures (c.turn-here.ensures.here ∙ ap₂ k.and refl c.loop-j.invariant.1) c.only_if.ensures c.or-any.ensures,
       kept_turn laws r c.args.w f c.args.i c.loop-j.j (omega arith) c.loop-j.invariant.1 refl c.turn-here.ensures.on,
     )
 
@@ -36,6 +36,6 @@ returns g c =
     let h = at k c.args.second.now in
     c.or.ensures
     ∙ ap₂ k.or
-    (future_end laws r c.args.w (reached k f h c.args.i) c.args.i c.loop-j.j c.future-end-end.result
-    c.requires.rises (omega arith) (omega arith) c.future-end-end.ensures.from c.future-end-end.ensures.within c.future-end-end.ensures.beyond c.loop-j.invariant.0)
-    (c.and.ensures ∙ ap₂ k.and c.requires.keeps c.open-mark.ensures)
+    (future_end laws r c.args.w (reached k f h c.args.i) c.args.i c.loop-j.j c.future_end-end.result
+    c.requires.rises (omega arith) (omega arith) c.future_end-end.ensures.from c.future_end-end.ensures.within c.future_end-end.ensures.beyond c.loop-j.invariant.0)
+    (c.and.ensures ∙ ap₂ k.and c.requires.keeps c.open_mark.ensures)

@@ -20,14 +20,14 @@ module _ {K : Type 0} (c : Column K) (i : ℕ) (lt : i < c.states) where
 pub bounds-column-i : goal.bounds-column-i
 bounds-column-i g c = let lt = here c.args.column.now c.args.i c.requires in search rules
 
-pub overflow-add-value : goal.overflow-add-value
-overflow-add-value g c = let lt = here c.args.column.now c.args.i c.requires in search rules
+pub overflow_add-value : goal.overflow_add-value
+overflow_add-value g c = let lt = here c.args.column.now c.args.i c.requires in search rules
 
-pub overflow-mul-value : goal.overflow-mul-value
-overflow-mul-value g c = let lt = here c.args.column.now c.args.i c.requires in search rules
+pub overflow_mul-value : goal.overflow_mul-value
+overflow_mul-value g c = let lt = here c.args.column.now c.args.i c.requires in search rules
 
-pub offset-bounds-column-i : goal.offset-bounds-column-i
-offset-bounds-column-i g c = let lt = here c.args.column.now c.args.i c.requires in search rules
+pub offset_bounds-column-i : goal.offset_bounds-column-i
+offset_bounds-column-i g c = let lt = here c.args.column.now c.args.i c.requires in search rules
 
 pub returns-then-column : goal.returns-then-column
 returns-then-column g c = read_negated c.args.column.now c.args.i c.requires g.K.Truth.kind _ _ c.if-column.true c.not.ensures

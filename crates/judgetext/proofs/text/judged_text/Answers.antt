@@ -6,9 +6,9 @@ use Rattle.judgetext.proofs.text.judged_text.Goals as goal
 
 pub returns-in-Ok : goal.returns-in-Ok
 returns-in-Ok c =
-    made_so c.all-lines.result _ _
+    made_so c.all_lines.result _ _
     (λ s h. verdicts_judged c.args.table.now c.args.stamps.now c.args.rows.now (case_of c.in-Ok.judged) (string_bytes s) c.in-Ok.ensures h)
-    c.all-lines.ensures
+    c.all_lines.ensures
 
 pub returns-in-Err : goal.returns-in-Err
 returns-in-Err c =

@@ -4,6 +4,6 @@ use Rattle.judgetext.proofs.text.output.Goals as goal
 
 pub returns-in-Ok : goal.returns-in-Ok
 returns-in-Ok c =
-    made_so c.record-text.result _ _
+    made_so c.record_text.result _ _
     (λ s h. inr (record { table = c.in-Ok.table; is = c.in-Ok.ensures.answer; written = h }))
-    c.record-text.ensures
+    c.record_text.ensures

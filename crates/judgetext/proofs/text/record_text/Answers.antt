@@ -7,7 +7,7 @@ pub returns-in-Ok : goal.returns-in-Ok
 returns-in-Ok c =
     let r = c.in-Ok.states in
     let read = c.in-Ok.ensures in
-    made_so c.judged-text.result _ _
+    made_so c.judged_text.result _ _
     (λ s h.
     inl (record {
       stamps = vec_items r.stamps;
@@ -15,6 +15,6 @@ returns-in-Ok c =
       paired = read.0;
       small = read.1;
       is = read.2;
-      written = h ∙ ap₂ (verdicts c.args.table.now) c.as-slice.ensures.value c.as-slice-in-Ok.ensures.value;
+      written = h ∙ ap₂ (verdicts c.args.table.now) c.as_slice.ensures.value c.as_slice-in-Ok.ensures.value;
     }))
-    c.judged-text.ensures
+    c.judged_text.ensures

@@ -19,8 +19,8 @@ returns c =
     let room : length ts * length c.nodes.result.now ≤ vec_capacity c.args.values = omega (arith, c.requires.room) in
     let grown : vec_len v ≡ length ts * length c.nodes.result.now = c.resize.ensures.len ∙ cond-true _ _ _ (c.resize.ensures.succeeds room) in
     let whole =
-    evaluated_whole ts (length nodes) (length c.as-mut-slice.result.now) c.as-mut-slice.result.now
-    (sym same ∙ sym grown ∙ sym c.as-mut-slice.ensures.len) c.requires.record.1 c.evaluate.ensures.answer c.evaluate.ensures.values in
+    evaluated_whole ts (length nodes) (length c.as_mut_slice.result.now) c.as_mut_slice.result.now
+    (sym same ∙ sym grown ∙ sym c.as_mut_slice.ensures.len) c.requires.record.1 c.evaluate.ensures.answer c.evaluate.ensures.values in
     record {
       room = omega (arith, c.requires.room, c.resize.ensures.capacity);
       values =

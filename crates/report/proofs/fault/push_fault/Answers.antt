@@ -4,4 +4,4 @@ use Rattle.report.proofs.fault.push_fault.Goals as goal
 
 pub returns : goal.returns
 returns c =
-    then_added c.in-ok-push-text.ensures (then_added (added_same (ap decimal c.number.ensures) c.in-ok-push-number.ensures) (then_added c.in-ok-push-text-2.ensures (then_added c.in-ok-push-number-2.ensures (then_added c.in-ok-push-text-3.ensures (then_added c.in-ok-push-number-3.ensures c.push-text-4.ensures)))))
+    then_added c.in_ok-push_text.ensures (then_added (added_same (ap decimal c.number.ensures) c.in_ok-push_number.ensures) (then_added c.in_ok-push_text-2.ensures (then_added c.in_ok-push_number-2.ensures (then_added c.in_ok-push_text-3.ensures (then_added c.in_ok-push_number-3.ensures c.push_text-4.ensures)))))

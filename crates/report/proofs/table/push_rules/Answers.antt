@@ -16,8 +16,8 @@ use Rattle.report.proofs.Sizes.{next_size}
 use Rattle.report.proofs.RuleReports.{none_yet, one_more, all_done}
 use Rattle.report.proofs.table.push_rules.Goals as goal
 
-pub overflow-add-end : goal.overflow-add-end
-overflow-add-end c =
+pub overflow_add-end : goal.overflow_add-end
+overflow_add-end c =
     let t = c.args.table.now in
     let i = c.loop-i.i in
     let none : Rule = record { number = 0; root = 0 } in
@@ -39,14 +39,14 @@ loop-i-preserved c =
     let r : Rule = get_or c.rules-rule-items.result.now i none in
     let is : r ≡ get_or (rules_of t) i none = ap (λ l. get_or l i none) rules in
     let lt : i < length (rules_of t) = omega (arith, ap length rules) in
-    let text : c.as-slice.result.now ≡ rule_text (texts [] (entries_of t)) r =
-    c.as-slice.ensures.value ∙ c.in-ok-text.ensures ∙ text_of_rule (rule_text (texts [] (entries_of t))) (rules_of t) i none lt ∙ ap (rule_text (texts [] (entries_of t))) (sym is) in
+    let text : c.as_slice.result.now ≡ rule_text (texts [] (entries_of t)) r =
+    c.as_slice.ensures.value ∙ c.in_ok-text.ensures ∙ text_of_rule (rule_text (texts [] (entries_of t))) (rules_of t) i none lt ∙ ap (rule_text (texts [] (entries_of t))) (sym is) in
     let own : answered (rule_reach r.number (nodes_of t) (rules_of t)) ≡ reach (formula_at (nodes_of t) r.root) =
     ap (λ q. answered (rule_reach q.number (nodes_of t) (rules_of t))) is ∙ own_reach none t i lt ∙ ap (λ q. reach (formula_at (nodes_of t) q.root)) (sym is) in
-    let count : c.saturating-sub.result ≡ size (formula_at (nodes_of t) r.root) = c.saturating-sub.ensures ∙ next_size (nodes_of t) c.loop-i.before (rules_of t) i none r is lt c.loop-i.invariant.count in
-    let line : summary c.saturating-sub.result c.reach-of-reach.result ≡ summary (size (formula_at (nodes_of t) r.root)) (reach (formula_at (nodes_of t) r.root)) =
-    ap (λ n. summary n c.reach-of-reach.result) count ∙ ap (summary (size (formula_at (nodes_of t) r.root))) (c.reach-of-reach.ensures ∙ own) in
-    one_more (vec_items c.push-summary.new.out) r none is lt c.loop-i.invariant (then_added (added_same text c.in-ok-push-text.ensures) (added_same line c.in-ok-push-summary.ensures)).is
+    let count : c.saturating_sub.result ≡ size (formula_at (nodes_of t) r.root) = c.saturating_sub.ensures ∙ next_size (nodes_of t) c.loop-i.before (rules_of t) i none r is lt c.loop-i.invariant.count in
+    let line : summary c.saturating_sub.result c.reach_of-reach.result ≡ summary (size (formula_at (nodes_of t) r.root)) (reach (formula_at (nodes_of t) r.root)) =
+    ap (λ n. summary n c.reach_of-reach.result) count ∙ ap (summary (size (formula_at (nodes_of t) r.root))) (c.reach_of-reach.ensures ∙ own) in
+    one_more (vec_items c.push_summary.new.out) r none is lt c.loop-i.invariant (then_added (added_same text c.in_ok-push_text.ensures) (added_same line c.in_ok-push_summary.ensures)).is
 
 pub returns : goal.returns
 returns c =

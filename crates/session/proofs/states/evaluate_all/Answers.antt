@@ -16,8 +16,8 @@ returns c =
     let rows = c.args.rows.now in
     let nodes = nodes_of c.args.table.now in
     let whole : c.evaluate.new.values ≡ all_values three (record_of stamps rows c.args.finished) nodes =
-    all_evaluated stamps nodes (row_record three stamps rows c.pending.result) c.as-mut-slice.result.now c.requires.risen
-    (c.as-mut-slice.ensures.len ∙ c.requires.full) c.evaluate.ensures.answer c.evaluate.ensures.values
+    all_evaluated stamps nodes (row_record three stamps rows c.pending.result) c.as_mut_slice.result.now c.requires.risen
+    (c.as_mut_slice.ensures.len ∙ c.requires.full) c.evaluate.ensures.answer c.evaluate.ensures.values
     ∙ ap (λ (p : Three). all_values three (row_record three stamps rows p) nodes) c.pending.ensures in
     let long : length c.evaluate.new.values ≡ vec_len c.args.values.now =
     ap length whole ∙ length_all_values three (record_of stamps rows c.args.finished) nodes ∙ sym c.requires.full in

@@ -3,10 +3,10 @@ use Rattle.writer.proofs.NodeTexts.{zero_puts, one_puts, two_puts}
 use Rattle.writer.proofs.nodes.+put_node.Goals as goal
 
 pub returns-in-Zero : goal.returns-in-Zero
-returns-in-Zero t c = zero_puts c.args.nodes.now c.args.n True c.requires.ordered c.requires.within c.put-head-head.ensures c.in-Zero.ensures c.put.ensures
+returns-in-Zero t c = zero_puts c.args.nodes.now c.args.n True c.requires.ordered c.requires.within c.put_head-head.ensures c.in-Zero.ensures c.put.ensures
 
 pub returns-in-One : goal.returns-in-One
-returns-in-One t c = one_puts c.args.nodes.now c.args.n True c.requires.ordered c.requires.within c.put-head-head.ensures c.in-One.a c.in-One.ensures c.put-first.ensures c.put-node-close.ensures c.put-in-One.ensures
+returns-in-One t c = one_puts c.args.nodes.now c.args.n True c.requires.ordered c.requires.within c.put_head-head.ensures c.in-One.a c.in-One.ensures c.put-first.ensures c.put_node-close.ensures c.put-in-One.ensures
 
 pub returns-in-Two : goal.returns-in-Two
-returns-in-Two t c = two_puts c.args.nodes.now c.args.n True c.requires.ordered c.requires.within c.put-head-head.ensures c.in-Two.a c.in-Two.b c.in-Two.ensures c.put-first-in-Two.ensures c.put-node-space.ensures c.put-second.ensures c.put-node-close-in-Two.ensures c.put-in-Two.ensures
+returns-in-Two t c = two_puts c.args.nodes.now c.args.n True c.requires.ordered c.requires.within c.put_head-head.ensures c.in-Two.a c.in-Two.b c.in-Two.ensures c.put-first-in-Two.ensures c.put_node-space.ensures c.put-second.ensures c.put_node-close-in-Two.ensures c.put-in-Two.ensures

@@ -1,4 +1,4 @@
 use Rattle.writer.proofs.nodes.+put_node.Given as goal
 
-abbrev pub decreases-put-node : goal.decreases-put-node
-decreases-put-node l = l.n
+abbrev pub decreases-put_node : goal.decreases-put_node
+decreases-put_node l = l.n

@@ -4,6 +4,6 @@ use Rattle.writer.proofs.rule.text.Goals as goal
 
 pub returns : goal.returns
 returns c =
-    let v = c.in-ok-text.text in
+    let v = c.in_ok-text.text in
     let short : vec_len v < 2 ^ 64 - 1 = search rules in
-    filled (drop (length c.put-rule.new.out) (vec_items v)) (vec_len v) c.put-rule-length.ensures.counted c.in-ok-text.ensures.len c.as-mut-slice.ensures.len short c.put-rule.ensures
+    filled (drop (length c.put_rule.new.out) (vec_items v)) (vec_len v) c.put_rule-length.ensures.counted c.in_ok-text.ensures.len c.as_mut_slice.ensures.len short c.put_rule.ensures

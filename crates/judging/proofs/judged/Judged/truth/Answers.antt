@@ -8,12 +8,12 @@ index-requires c =
     let j = c.args.self.now in
     let root = c.in-Some.ensures in
     subst (λ xs. c.args.state * length xs + c.in-Some.m < vec_len j.values) (sym c.nodes.ensures.value)
-    (answer_place j c.args.rule c.args.state c.in-Some.m root.value (root.within _ (sym root.value)) (ltb-true _ _ (sym c.has-state.ensures ∙ c.if-not-has-state.false)))
+    (answer_place j c.args.rule c.args.state c.in-Some.m root.value (root.within _ (sym root.value)) (ltb-true _ _ (sym c.has_state.ensures ∙ c.if-not-has_state.false)))
 
 pub returns : goal.returns
 returns c =
     let j = c.args.self.now in
     let root = c.in-Some.ensures in
-    answer_is j c.args.rule c.args.state c.in-Some.m root.value (root.within _ (sym root.value)) (ltb-true _ _ (sym c.has-state.ensures ∙ c.if-not-has-state.false))
+    answer_is j c.args.rule c.args.state c.in-Some.m root.value (root.within _ (sym root.value)) (ltb-true _ _ (sym c.has_state.ensures ∙ c.if-not-has_state.false))
     c.index.result.now
     (c.index.ensures ∙ ap (λ xs. get_or (vec_items j.values) (c.args.state * length xs + c.in-Some.m) c.index.result.now) c.nodes.ensures.value)

@@ -8,6 +8,6 @@ pub returns : goal.returns
 returns g c =
     let v = view g.S.Store.meaning c.args.self.now in
     record {
-      answer = record { answer = c.looked-up.ensures; after = refl };
-      law = subst (Law v c.args.rule c.args.state) (sym c.looked-up.ensures) (lawful v c.args.rule c.args.state);
+      answer = record { answer = c.looked_up.ensures; after = refl };
+      law = subst (Law v c.args.rule c.args.state) (sym c.looked_up.ensures) (lawful v c.args.rule c.args.state);
     }

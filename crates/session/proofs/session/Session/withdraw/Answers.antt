@@ -6,6 +6,6 @@ pub returns : goal.returns
 returns g c =
     let m = g.S.Store.meaning in
     record {
-      answer = c.taken-back.ensures;
-      book = brings_back (view m c.args.self.now) (view m c.taken-back.new.self) c.args.slip c.taken-back.result c.taken-back.ensures;
+      answer = c.taken_back.ensures;
+      book = brings_back (view m c.args.self.now) (view m c.taken_back.new.self) c.args.slip c.taken_back.result c.taken_back.ensures;
     }

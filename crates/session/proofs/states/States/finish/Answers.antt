@@ -4,8 +4,8 @@ use Rattle.rules.specs.Tables.{nodes_of}
 use Rattle.session.proofs.Places.{how_many}
 use Rattle.session.proofs.states.States.finish.Goals as goal
 
-pub evaluate-all-requires : goal.evaluate-all-requires
-evaluate-all-requires c =
+pub evaluate_all-requires : goal.evaluate_all-requires
+evaluate_all-requires c =
     let s = c.args.self.now in
-    let same = c.as-slice.ensures.value in
+    let same = c.as_slice.ensures.value in
     record { risen = ap rising same ∙ s.risen; full = how_many s ∙ ap (λ (ts : List ℕ). length ts * length (nodes_of s.table.now)) (sym same) }

@@ -13,18 +13,18 @@ widen-requires c =
     let more = more_room (length (vec_items s.stamps)) _ _ c.requires.few few (how_many s) in
     (omega arith, omega arith)
 
-pub evaluate-all-requires : goal.evaluate-all-requires
-evaluate-all-requires c =
+pub evaluate_all-requires : goal.evaluate_all-requires
+evaluate_all-requires c =
     let s = c.args.self.now in
-    let same = c.as-slice.ensures.value ∙ c.push-reserved.ensures.items in
+    let same = c.as_slice.ensures.value ∙ c.push_reserved.ensures.items in
     record {
       risen = ap rising same ∙ rising_more (vec_items s.stamps) c.args.stamp s.risen c.requires.later;
       full = one_more _ _ _ _ _ (how_many s) (ap length same ∙ length-append (vec_items s.stamps) _) (ap length c.nodes.ensures.value) c.widen.ensures.len;
     }
 
-pub invariant-of-self : goal.invariant-of-self
-invariant-of-self c =
+pub invariant_of-self : goal.invariant_of-self
+invariant_of-self c =
     let s = c.args.self.now in
-    let up : rising (vec_items c.push-reserved.new.self) ≡ true =
-    ap rising c.push-reserved.ensures.items ∙ rising_more (vec_items s.stamps) c.args.stamp s.risen c.requires.later in
+    let up : rising (vec_items c.push_reserved.new.self) ≡ true =
+    ap rising c.push_reserved.ensures.items ∙ rising_more (vec_items s.stamps) c.args.stamp s.risen c.requires.later in
     search rules
