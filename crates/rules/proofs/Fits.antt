@@ -1,5 +1,5 @@
 -- Arguments that were read fit their slots.
-use Rattle.std.proofs.Common.{◌≡◌, ℕ, zero, suc, ◌<◌, ◌≤◌, Bool, true, false, cond, ◌&&◌, T, List, [], ◌∷◌, length, ℤ, pos, Some, None, sym, refl, ap, ◌∙◌, subst, inl, inr, arith}
+use Rattle.std.proofs.Common.{◌≡◌, ℕ, zero, suc, ◌<◌, ◌≤◌, Bool, true, false, cond, T, List, [], ◌∷◌, length, ℤ, Some, None, sym, refl, subst, inl, inr, arith}
 use lib.Signed.{le_z, le_z_yes}
 use Rattle.std.proofs.lemmas.Bool.{and_parts}
 use Rattle.items.proofs.Tests.{apart}
@@ -11,7 +11,7 @@ use Rattle.grammar.specs.declared.fault.FaultKind.TheVariants.{TooMany}
 use Rattle.grammar.specs.declared.shape.Slot.{Slot}
 use Rattle.grammar.specs.declared.shape.Slot.TheVariants.{Range, Upper, UpperOrEnd}
 use Rattle.grammar.specs.Grammar.{slots}
-use Rattle.grammar.specs.Reading.{State, Outcome, done, stop, then, next, is, argument, arguments, same, opening, fault_at}
+use Rattle.grammar.specs.Reading.{State, done, stop, next, is, argument, arguments, same, opening, fault_at}
 use Rattle.grammar.specs.Trees.{in_range, fits}
 use Rattle.grammar.proofs.Inversion.{stopped, both, taken, argued}
 use Rattle.rules.specs.Fitting.{Numeral, FitsSlot, Fitting}

@@ -1,9 +1,8 @@
 -- The nodes of well-formed rules stand after their operands.
-use Rattle.std.proofs.Common.{◌≡◌, ℕ, ◌+◌, ◌≤◌, max, true, ◌&&◌, ltb, List, map, length, get_or, subst, arith, ltb-true}
+use Rattle.std.proofs.Common.{◌≡◌, ℕ, ◌+◌, ◌≤◌, max, true, ◌&&◌, ltb, List, map, get_or, subst, arith, ltb-true}
 use Rattle.std.proofs.lemmas.List.{length-map, get_or-map}
 use Rattle.std.proofs.lemmas.Bool.{and_parts}
 use Rattle.syntax.specs.declared.Node.{Node}
-use Rattle.syntax.specs.declared.Query.{Query}
 use Rattle.syntax.specs.declared.Rule.{Rule}
 use Rattle.syntax.specs.Nodes.{place, Ordered}
 use Rattle.grammar.specs.Entries.{entry_of}

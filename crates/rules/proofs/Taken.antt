@@ -1,12 +1,11 @@
 -- What one item of the reading gives.
-use Rattle.std.proofs.Common.{◌≡◌, ℕ, ◌<◌, ◌≤◌, List, [], ◌∷◌, ◌++◌, length, Ok, Err, Result, sym, refl, ap, ◌∙◌, subst, arith}
+use Rattle.std.proofs.Common.{◌≡◌, ℕ, List, [], ◌∷◌, ◌++◌, length, Ok, Err, Result, ap, ◌∙◌}
 use Rattle.items.specs.declared.item.Place.{Place}
 use Rattle.items.specs.declared.item.Item.{Item}
-use Rattle.items.specs.declared.item.Kind.{Kind}
 use Rattle.items.specs.declared.item.Kind.TheVariants.{Close}
 use Rattle.grammar.specs.declared.fault.FaultKind.{FaultKind}
 use Rattle.grammar.specs.Entries.{Entry}
-use Rattle.grammar.specs.Reading.{State, Outcome, done, stop, Test, left, tested, next, any, is, closing}
+use Rattle.grammar.specs.Reading.{State, Outcome, done, stop, Test, tested, next, any, is, closing}
 use Rattle.grammar.proofs.Inversion.{stopped, taken}
 
 -- the outcome of a test of an item that was taken

@@ -1,5 +1,5 @@
 -- A whole file, from the reading of its rules.
-use Rattle.std.proofs.Common.{◌≡◌, ℕ, ◌<◌, true, false, eqb, List, [], ◌∷◌, length, sym, refl, ap, ◌∙◌, subst, arith, true-eqb}
+use Rattle.std.proofs.Common.{◌≡◌, ℕ, ◌<◌, true, eqb, List, [], ◌∷◌, length, sym, refl, ap, ◌∙◌, subst, arith, true-eqb}
 use Rattle.items.specs.declared.item.Place.{Place}
 use Rattle.items.specs.declared.item.Item.{Item}
 use Rattle.items.specs.Items.{items, end_of}
@@ -9,7 +9,7 @@ use Rattle.grammar.specs.declared.fault.ReadFault.{ReadFault}
 use Rattle.grammar.specs.declared.fault.FaultKind.TheVariants.{Empty}
 use Rattle.grammar.specs.Entries.{Entry}
 use Rattle.grammar.specs.Reading.{State, Outcome, done, stop}
-use Rattle.grammar.specs.Files.{at_end, all_rules, start_of, file, Line, WellFile, lines_text}
+use Rattle.grammar.specs.Files.{at_end, all_rules, start_of, Line, WellFile, lines_text}
 use Rattle.grammar.specs.Formed.{Formed}
 use Rattle.grammar.specs.TableText.{table_text}
 use Rattle.grammar.specs.RoundTrip.{ReadBack, reading, Gives}

@@ -1,5 +1,6 @@
 //! Tables of rules, and the reader that fills them.
 #![tactic(auto)]
+
 mod build;
 mod formula;
 mod make;

@@ -6,10 +6,10 @@ use Rattle.rules.proofs.reader.Reader.argument.Goals as goal
 
 pub returns-in-Ok : goal.returns-in-Ok
 returns-in-Ok c =
-    passes (argument c.args.slot c.args.before) (state_of c.args.self.now) c.in-ok-item.item (state_of c.item.new.self) _ c.in-ok-item.ensures
-    (ap (λ z. argument c.args.slot z c.in-ok-item.item) (sym (to_z-of_z c.ranges.before)) ∙ (sym c.fit.ensures ∙ c.in-Ok.is))
+    passes (argument c.args.slot c.args.before) (state_of c.args.self.now) c.in_ok-item.item (state_of c.item.new.self) _ c.in_ok-item.ensures
+    (ap (λ z. argument c.args.slot z c.in_ok-item.item) (sym (to_z-of_z c.ranges.before)) ∙ (sym c.fit.ensures ∙ c.in-Ok.is))
 
 pub returns-in-Err : goal.returns-in-Err
 returns-in-Err c =
-    fails (argument c.args.slot c.args.before) (state_of c.args.self.now) c.in-ok-item.item (state_of c.item.new.self) _ c.in-ok-item.ensures
-    (ap (λ z. argument c.args.slot z c.in-ok-item.item) (sym (to_z-of_z c.ranges.before)) ∙ (sym c.fit.ensures ∙ c.in-Err.is))
+    fails (argument c.args.slot c.args.before) (state_of c.args.self.now) c.in_ok-item.item (state_of c.item.new.self) _ c.in_ok-item.ensures
+    (ap (λ z. argument c.args.slot z c.in_ok-item.item) (sym (to_z-of_z c.ranges.before)) ∙ (sym c.fit.ensures ∙ c.in-Err.is))
