@@ -1,5 +1,5 @@
 -- Texts added one after another.
-use Rattle.std.proofs.Common.{◌≡◌, ℕ, List, [], ◌∷◌, ◌++◌, IfOk, Ok, Err, Result, refl, ap, ◌∙◌, subst, append_assoc}
+use Rattle.std.proofs.Common.{◌≡◌, ℕ, List, ◌++◌, IfOk, Ok, Err, Result, ap, ◌∙◌, subst, append_assoc}
 use Rattle.report.specs.Appends.{Added}
 
 after_both : {E : Type 0} (r : Result (Unit {0}) E) (a b c s t : List ℕ) → b ≡ a ++ s → IfOk r (λ _. c ≡ b ++ t) → IfOk r (λ _. c ≡ a ++ (s ++ t))

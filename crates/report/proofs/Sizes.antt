@@ -1,5 +1,5 @@
 -- The formulas of a rule are the nodes after those of the rules before it, up to its root.
-use Rattle.std.proofs.Common.{◌≡◌, ℕ, zero, suc, ◌+◌, ◌-◌, ◌<◌, ◌≤◌, Bool, true, false, ◌&&◌, eqb, List, [], ◌∷◌, ◌++◌, map, length, get_or, drop, sym, refl, ap, ◌∙◌, subst, ⊎_elim, arith, length-append}
+use Rattle.std.proofs.Common.{◌≡◌, ℕ, zero, suc, ◌+◌, ◌-◌, ◌<◌, Bool, true, ◌&&◌, eqb, List, [], ◌∷◌, ◌++◌, map, length, get_or, drop, sym, refl, ap, ◌∙◌, subst, ⊎_elim, arith, length-append}
 use mathlib.Core.HLevel.{⊥_prop}
 use mathlib.Core.Logic.{∥∥₁_elim}
 use Rattle.std.proofs.lemmas.List.{get_or_append_left, get_or_at, map-append, at_drop_more}
@@ -17,7 +17,7 @@ use Rattle.grammar.specs.Files.{Line, lines_nodes, lines_rules}
 use Rattle.grammar.specs.Formed.{Formed}
 use Rattle.grammar.proofs.Inversion.{length_after}
 use Rattle.rules.specs.declared.table.Table.{Table}
-use Rattle.rules.specs.Tables.{nodes_of, rules_of, entries_of}
+use Rattle.rules.specs.Tables.{nodes_of, rules_of}
 use Rattle.report.specs.Sizes.{size}
 
 abbrev total : List ℕ → ℕ

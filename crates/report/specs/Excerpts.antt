@@ -1,5 +1,5 @@
 -- The faulty line and the mark under the place.
-use Rattle.std.specs.Prelude.{ℕ, ◌+◌, ◌-◌, Bool, cond, ◌&&◌, List, [], ◌∷◌, ◌++◌, map, take, drop, replicate, nat_le}
+use Rattle.std.specs.Prelude.{ℕ, ◌-◌, cond, ◌&&◌, List, [], ◌∷◌, ◌++◌, map, take, drop, replicate, nat_le}
 
 -- a byte that stands for itself in print, else a question mark: every byte takes one column
 abbrev pub shown : ℕ → ℕ

@@ -1,5 +1,5 @@
 -- What the writer answers and leaves in the buffer.
-use Rattle.std.specs.Prelude.{◌≡◌, ℕ, ◌<◌, ◌≤◌, cond, List, [], ◌++◌, map, length, drop, Ok, Err, Result, nat_le}
+use Rattle.std.specs.Prelude.{ℕ, ◌<◌, cond, List, [], ◌++◌, map, length, drop, Ok, Err, Result, nat_le}
 use Rattle.grammar.specs.RoundTrip.{Gives}
 use Rattle.rules.specs.declared.table.Table.{Table}
 use Rattle.rules.specs.Tables.{entries_of, rules_of, text_of}

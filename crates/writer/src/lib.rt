@@ -1,5 +1,6 @@
 //! The text of a table of rules, written into a buffer.
 #![tactic(auto)]
+
 mod arguments;
 pub mod fault;
 mod nodes;

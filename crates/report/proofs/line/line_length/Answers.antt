@@ -1,4 +1,4 @@
-use Rattle.std.proofs.Common.{◌≡◌, arith}
+use Rattle.std.proofs.Common.{arith}
 use Rattle.report.proofs.Lines.{ends_here, ends_later, never_ends}
 use Rattle.report.proofs.line.line_length.Goals as goal
 

@@ -1,4 +1,4 @@
-use Rattle.std.proofs.Common.{◌≡◌, ◌-◌, eqb, length, sym, ap, ◌∙◌, rules}
+use Rattle.std.proofs.Common.{◌≡◌, ◌-◌, length, sym, ap, ◌∙◌, rules}
 use Rattle.report.specs.Lines.{line_after, first_line}
 use Rattle.report.proofs.Lines.{line_past, line_here, line_none}
 use Rattle.report.proofs.line.line_of.Goals as goal

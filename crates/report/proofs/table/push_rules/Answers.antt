@@ -1,7 +1,6 @@
-use Rattle.std.proofs.Common.{◌≡◌, ◌+◌, ◌-◌, ◌<◌, ◌≤◌, [], length, get_or, vec_items, vec_len, sym, ap, ◌∙◌, arith}
+use Rattle.std.proofs.Common.{◌≡◌, ◌<◌, ◌≤◌, [], length, get_or, vec_items, vec_len, sym, ap, ◌∙◌, arith}
 use Rattle.grammar.specs.TableText.{rule_text, texts}
 use Rattle.syntax.specs.declared.Rule.{Rule}
-use Rattle.rules.specs.declared.table.Table.{Table}
 use Rattle.syntax.specs.Formula.{reach}
 use Rattle.syntax.specs.Nodes.{formula_at}
 use Rattle.rules.specs.Reaches.{rule_reach}

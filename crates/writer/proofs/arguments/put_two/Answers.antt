@@ -1,4 +1,4 @@
-use Rattle.std.proofs.Common.{[], ◌∷◌, ◌++◌, sym, ap, append-nil}
+use Rattle.std.proofs.Common.{◌∷◌, ◌++◌, sym, ap, append-nil}
 use Rattle.grammar.specs.TableText.{arg_text}
 use Rattle.writer.proofs.Places.{then_puts, puts_same}
 use Rattle.writer.proofs.arguments.put_two.Goals as goal

@@ -1,4 +1,4 @@
-use Rattle.std.proofs.Common.{arith, rules}
+use Rattle.std.proofs.Common.{rules}
 use Rattle.writer.proofs.Places.{digit_puts, digits_put}
 use Rattle.writer.proofs.place.+put_decimal.Goals as goal
 

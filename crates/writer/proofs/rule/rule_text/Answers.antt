@@ -1,7 +1,6 @@
-use Rattle.std.proofs.Common.{◌≡◌, ℕ, ◌<◌, ◌≤◌, true, List, [], map, length, get_or, vec_items, sym, ap, ◌∙◌, subst, arith, rules}
+use Rattle.std.proofs.Common.{◌≡◌, ◌<◌, ◌≤◌, true, [], map, length, get_or, vec_items, sym, ap, ◌∙◌, subst, arith, rules}
 use Rattle.std.proofs.lemmas.Result.{IfOk-weaker}
 use Rattle.syntax.specs.Nodes.{Ordered, rooted}
-use Rattle.syntax.specs.declared.Rule.{Rule}
 use Rattle.grammar.specs.Entries.{entry_of}
 use Rattle.grammar.specs.TableText.{rule_text, texts}
 use Rattle.rules.specs.Tables.{nodes_of, rules_of}

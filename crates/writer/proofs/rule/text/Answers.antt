@@ -1,4 +1,4 @@
-use Rattle.std.proofs.Common.{◌-◌, ◌^◌, ◌<◌, length, drop, vec_items, vec_len, arith, rules}
+use Rattle.std.proofs.Common.{◌-◌, ◌^◌, ◌<◌, length, drop, vec_items, vec_len, rules}
 use Rattle.writer.proofs.Written.{filled}
 use Rattle.writer.proofs.rule.text.Goals as goal
 
