@@ -7,8 +7,8 @@ use Rattle.items.specs.declared.item.Item.{Item}
 use Rattle.grammar.specs.declared.shape.Slot.{Slot}
 use Rattle.grammar.specs.declared.shape.Slot.TheVariants.{Upper}
 use Rattle.grammar.specs.Entries.{Entry}
-use Rattle.grammar.specs.Reading.{State, Outcome, done, then, next, left, is, argument, arg, formula}
-use Rattle.items.specs.Tokens.{Token, plain, number, token, tokens}
+use Rattle.grammar.specs.Reading.{State, Outcome, done, then, next, left, is, argument, formula}
+use Rattle.items.specs.Tokens.{Token, plain, number, tokens}
 use Rattle.grammar.specs.Trees.{Tree, tree_tokens, inside, fits, Well}
 use Rattle.syntax.specs.declared.Rule.{Rule}
 use Rattle.grammar.specs.Files.{rule_of, rule_number, rule, at_end, rules, all_rules, start_of, file, Line, lines_tokens, lines_nodes, lines_rules, formulas, Numbered, WellLines, WellFile}

@@ -6,8 +6,8 @@ use Rattle.items.specs.declared.item.Place.{Place}
 use Rattle.items.specs.declared.item.Item.{Item}
 use Rattle.grammar.specs.declared.shape.Slot.{Slot}
 use Rattle.grammar.specs.declared.shape.Slot.TheVariants.{Upper}
-use Rattle.grammar.specs.Reading.{State, done, stop, then, next, is, same, fault_at, argument, opening, arg, formula}
-use Rattle.items.specs.Tokens.{plain, number, token, tokens}
+use Rattle.grammar.specs.Reading.{State, done, stop, then, next, is, same, fault_at, argument, formula}
+use Rattle.items.specs.Tokens.{plain, number, tokens}
 use Rattle.grammar.specs.Trees.{in_range, Tree, arg_token, tree_tokens, inside, nodes_after, fits, Well}
 use Rattle.syntax.specs.declared.Rule.{Rule}
 use Rattle.grammar.specs.Files.{rule_of, rule_number, rule, at_end, rules, all_rules, start_of, file, Line, lines_tokens, lines_nodes, lines_rules, formulas, Numbered, WellLines, WellFile}

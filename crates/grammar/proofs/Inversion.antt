@@ -14,8 +14,8 @@ use Rattle.grammar.specs.declared.shape.Arity.{Arity}
 use Rattle.grammar.specs.declared.shape.Arity.TheVariants.{Zero, One, Two}
 use Rattle.grammar.specs.Grammar.{slots, arity}
 use Rattle.grammar.specs.Entries.{Arg, Entry, entry}
-use Rattle.grammar.specs.Reading.{State, Outcome, Step, Test, done, stop, then, next, tested, left, is, same, fault_at, within, rising, ranged, may_end, argument, arguments, operand, operands, word, counted, opening, arg, pushed, closing, formula}
-use Rattle.items.specs.Tokens.{plain, number, token_of, token, tokens}
+use Rattle.grammar.specs.Reading.{State, Outcome, Step, Test, done, stop, then, next, tested, left, is, same, fault_at, within, ranged, may_end, argument, arguments, operand, operands, word, counted, opening, arg, pushed, closing, formula}
+use Rattle.items.specs.Tokens.{plain, token_of, token, tokens}
 use Rattle.grammar.specs.Trees.{Tree, leaf, unary, binary, arg_token, arg_tokens, head_tokens, tree_tokens, inside, nodes_after, in_range, fits, bound, args_fit, Well}
 use Rattle.items.proofs.Tests.{apart}
 use Rattle.grammar.proofs.Tokens.{err_ok, is_open, is_close, is_space, is_form}

@@ -17,9 +17,9 @@ use Rattle.grammar.specs.declared.shape.Arity.TheVariants.{Zero, One, Two}
 use Rattle.grammar.specs.Entries.{Entry, entry}
 use Rattle.grammar.specs.Grammar.{slots, arity}
 use Rattle.grammar.specs.Reading.{State, Outcome, Step, Test, done, stop, then, next, tested, is, same, fault_at, argument, arguments, operand, operands, word, counted, opening, arg, pushed, closing, formula}
-use Rattle.grammar.specs.Files.{rule_of, rule_number, rule, at_end, rules, all_rules, file}
+use Rattle.grammar.specs.Files.{rule_of, rule_number, rule, rules, all_rules, file}
 use Rattle.grammar.specs.RoundTrip.{reading}
-use Rattle.grammar.specs.Places.{Faulty, Placed}
+use Rattle.grammar.specs.Places.{Placed}
 use Rattle.grammar.proofs.Inversion.{stopped}
 
 abbrev at : ℕ → List Entry → List Item → Place → State

@@ -1,5 +1,5 @@
 -- The round trip: a file that is read is the text of its rules, and the text of well-formed rules is read as them.
-use Rattle.std.proofs.Common.{◌≡◌, ℕ, zero, suc, ◌+◌, ◌<◌, ◌≤◌, true, leb, List, [], ◌∷◌, ℤ, pos, negsuc, Some, None, refl, ap, inl, inr, arith, leb-true}
+use Rattle.std.proofs.Common.{◌≡◌, ℕ, zero, suc, ◌+◌, ◌<◌, ◌≤◌, true, List, [], ◌∷◌, ℤ, pos, negsuc, Some, None, refl, inl, inr, arith, leb-true}
 use Rattle.std.proofs.lemmas.Bool.{and_parts}
 use lib.Signed.{le_z, mag}
 use Rattle.items.specs.declared.item.Form.{Form}
@@ -7,11 +7,11 @@ use Rattle.grammar.specs.declared.shape.Slot.{Slot}
 use Rattle.grammar.specs.declared.shape.Slot.TheVariants.{Range, Upper, UpperOrEnd}
 use Rattle.grammar.specs.Grammar.{slots}
 use Rattle.grammar.specs.Entries.{Arg}
-use Rattle.grammar.specs.Reading.{State, done, is, arg}
-use Rattle.items.specs.Tokens.{Token, number}
+use Rattle.grammar.specs.Reading.{State, done}
+use Rattle.items.specs.Tokens.{Token}
 use Rattle.grammar.specs.Trees.{Tree, leaf, unary, binary, arg_token, arg_tokens, head_tokens, tree_tokens, in_range, fits, bound, args_fit, Well}
 use Rattle.syntax.specs.declared.Rule.{Rule}
-use Rattle.grammar.specs.Files.{rule, rules, file, Line, lines_tokens, WellLines, WellFile, lines_text}
+use Rattle.grammar.specs.Files.{file, Line, lines_tokens, WellLines, WellFile, lines_text}
 use Rattle.items.specs.Items.{items, end_of, start}
 use Rattle.grammar.specs.RoundTrip.{ReadBack, WrittenBack}
 use Rattle.items.proofs.Tests.{apart}

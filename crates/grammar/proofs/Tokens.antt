@@ -1,10 +1,10 @@
 -- The token of an item of a kind.
-use Rattle.std.proofs.Common.{◌≡◌, ℕ, true, false, ℤ, Ok, Err, Result, refl, ap, arith}
+use Rattle.std.proofs.Common.{◌≡◌, ℕ, true, ℤ, Ok, Err, Result, refl, arith}
 use Rattle.items.proofs.Tests.{apart}
 use Rattle.items.specs.declared.item.Form.{Form}
 use Rattle.items.specs.declared.item.Kind.{Kind}
-use Rattle.grammar.specs.Reading.{is, same, form_of}
-use Rattle.items.specs.Tokens.{plain, number, token_of, token}
+use Rattle.grammar.specs.Reading.{same, form_of}
+use Rattle.items.specs.Tokens.{plain, number, token_of}
 use Rattle.items.specs.declared.item.Kind.TheVariants as kind
 
 pub err_ok : {V E : Type 0} {e : E} {v : V} → ◌≡◌ {A = Result V E} (Err e) (Ok v) → ⊥

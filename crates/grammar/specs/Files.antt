@@ -1,5 +1,5 @@
 -- Rule lines and whole files: how they are read, and what they are the text of.
-use Rattle.std.specs.Prelude.{◌≡◌, ℕ, zero, suc, ◌+◌, ◌<◌, ◌≤◌, true, cond, List, [], ◌∷◌, length, pos, Some, nat_lt}
+use Rattle.std.specs.Prelude.{ℕ, zero, suc, ◌+◌, ◌<◌, ◌≤◌, cond, List, [], ◌∷◌, length, pos, nat_lt}
 use Rattle.std.specs.Int.Signed.{mag}
 use Rattle.items.specs.declared.item.Place.{Place}
 use Rattle.items.specs.declared.item.Item.{Item}
@@ -8,7 +8,7 @@ use Rattle.syntax.specs.declared.Rule.{Rule}
 use Rattle.grammar.specs.Entries.{Entry}
 use Rattle.grammar.specs.Reading.{State, Outcome, Step, done, stop, then, next, is, argument, fault_at, formula}
 use Rattle.items.specs.Tokens.{Token, plain, number, spell}
-use Rattle.grammar.specs.Trees.{Tree, tree_tokens, inside, nodes_after, Well, fits}
+use Rattle.grammar.specs.Trees.{Tree, tree_tokens, inside, nodes_after, Well}
 use Rattle.items.specs.declared.item.Kind.TheVariants as kind
 use Rattle.grammar.specs.declared.fault.FaultKind.TheVariants as fault
 

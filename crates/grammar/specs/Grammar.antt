@@ -1,5 +1,5 @@
 -- What each form has after its word, and how items are read.
-use Rattle.std.specs.Prelude.{List, [], ◌∷◌, pos, negsuc, Some}
+use Rattle.std.specs.Prelude.{List, [], ◌∷◌, pos, negsuc}
 use Rattle.items.specs.declared.item.Form.{Form}
 use Rattle.grammar.specs.declared.shape.Slot.{Slot}
 use Rattle.grammar.specs.declared.shape.Slot.TheVariants.{Range, Upper, UpperOrEnd}

@@ -1,5 +1,6 @@
 //! The language of rule files: what each form has after its word, how an item fits there, and the faults.
 #![tactic(auto)]
+
 pub mod fault;
 pub mod fit;
 pub mod forms;

@@ -1,14 +1,13 @@
 -- The binary digits of a number, one by one.
-use Rattle.std.specs.Prelude.{◌≡◌, ℕ, zero, suc, ◌+◌, ◌-◌, ◌*◌, ◌/◌, ◌%◌, ◌^◌, ◌<◌, ◌≤◌, min, max, Bool, true, false, cond, not, ◌&&◌, ◌||◌, ◌⊎◌, Some, None, Option, ◌==◌, ◌≢◌, nat_eq, refl}
-use Rattle.std.proofs.Common.{sym, ap, ◌∙◌, subst, inl, inr, ⊎_elim, zero-le, suc-le-suc, le_of_suc-le-suc, not-suc-le-zero, pow-suc, mul_comm, arith}
+use Rattle.std.specs.Prelude.{◌≡◌, ℕ, zero, suc, ◌+◌, ◌-◌, ◌*◌, ◌/◌, ◌%◌, ◌^◌, ◌<◌, ◌≤◌, min, max, Bool, true, false, not, ◌&&◌, ◌||◌, ◌⊎◌, Some, None, ◌==◌, ◌≢◌, nat_eq, refl}
+use Rattle.std.proofs.Common.{sym, ap, ◌∙◌, ⊎_elim, zero-le, suc-le-suc, le_of_suc-le-suc, not-suc-le-zero, pow-suc, arith}
 use Rattle.std.proofs.Math.Dec.{eqb-suc-suc}
 use Rattle.std.specs.Int.Bits.{bit_and, bit_or, and_step, or_step}
-use Rattle.std.specs.Int.Count.{ones, ones_step, count_trailing_zeros, under}
+use Rattle.std.specs.Int.Count.{count_trailing_zeros}
 use Rattle.std.proofs.lemmas.Nat.{shr-shr, shr_below, and_mask, one_shl, pow_below}
 use Rattle.std.proofs.lemmas.Bool.Decides.{nat_tests}
-use Rattle.std.proofs.lemmas.Bool.{eq-eqb, ne_eqb, eqb-true}
+use Rattle.std.proofs.lemmas.Bool.{eq-eqb, ne_eqb}
 use Rattle.gridstore.specs.Grid.{has_bit, FirstBit}
-use Rattle.store.proofs.Sets.{by_bool}
 
 digit : (a : ℕ) → (a % 2 ≡ 0) ⊎ (a % 2 ≡ 1)
 digit a = grind (arith, eqb-tells-2 a)

@@ -1,19 +1,18 @@
 -- The facts of a grid of words.
-use Rattle.std.specs.Prelude.{◌≡◌, ℕ, zero, suc, ◌+◌, ◌-◌, ◌*◌, ◌/◌, ◌%◌, ◌^◌, ◌<◌, ◌≤◌, Bool, true, false, cond, not, ◌&&◌, ◌||◌, T, leb, ◌⊎◌, List, [], ◌∷◌, ◌++◌, length, drop, replicate, ℤ, pos, negsuc, Some, None, MatchBool, Option, ◌==◌, ◌≢◌, bit_and, bit_or, count_ones, int_le, int_lt, nat_eq, nat_le, slice_index, slice_index_or, slice_set, unsigned_abs, refl}
-use Rattle.std.proofs.Common.{sym, ap, ◌∙◌, subst, inl, inr, ⊎_elim, zero-le, suc-le-suc, le_of_suc-le-suc, not-suc-le-zero, pow-suc, arith, add-one}
+use Rattle.std.specs.Prelude.{◌≡◌, ℕ, zero, suc, ◌+◌, ◌-◌, ◌*◌, ◌/◌, ◌%◌, ◌^◌, ◌<◌, ◌≤◌, Bool, true, false, not, ◌&&◌, ◌||◌, T, leb, ◌⊎◌, List, [], ◌∷◌, length, drop, replicate, ℤ, pos, negsuc, Some, None, MatchBool, ◌==◌, ◌≢◌, bit_and, bit_or, count_ones, int_le, int_lt, nat_eq, nat_le, slice_index, slice_index_or, slice_set, unsigned_abs, refl}
+use Rattle.std.proofs.Common.{sym, ap, ◌∙◌, subst, ⊎_elim, zero-le, suc-le-suc, le_of_suc-le-suc, not-suc-le-zero, pow-suc, arith, add-one}
 use Rattle.std.specs.Int.Signed.{non_neg}
 use Rattle.std.specs.Int.Count.{ones_step}
 use Rattle.std.proofs.lemmas.Nat.{ones-le}
 use Rattle.std.proofs.lemmas.Bool.Decides.{nat_tests}
 use Rattle.std.proofs.lemmas.Int.{ints}
 use Rattle.std.proofs.lemmas.List.{length-append, length-set, get_or-set_same, get_or-set_other, drop_more, drop_all}
-use Rattle.std.proofs.lemmas.Bool.{and_parts, and_from, both_ways, or_cases, or_from, or_parts, or_left, or_right, eqb-true, eqb-false, eq-eqb, cases_eq, and_right, ne_eqb, leb-true, le-leb, cases_lt}
+use Rattle.std.proofs.lemmas.Bool.{and_from, both_ways, or_cases, or_from, or_left, or_right, eqb-true, eqb-false, eq-eqb, cases_eq, and_right, ne_eqb, leb-true, le-leb, cases_lt}
 use Rattle.store.specs.declared.facts.Fact.{Fact}
-use Rattle.store.specs.Facts.{before, same, before_all, rising, holds, with_fact, without_fact, at_or_after, first_from, fact_of, in_range}
+use Rattle.store.specs.Facts.{before, same, rising, holds, with_fact, without_fact, at_or_after, first_from, fact_of, in_range}
 use Rattle.gridstore.specs.Grid.{grid_takes, word_of, bit_of, has_bit, grid_fact, word_facts, row_facts, words_facts, grid_meaning, FirstBit, LowBit, Present, Absent}
 use Rattle.store.proofs.Walks.{first_relation}
-use Rattle.store.specs.Stores.{Meaning}
-use Rattle.store.proofs.Order.{fact_same, before_irrefl, before_trans, before_connex, same_refl, same_eq}
+use Rattle.store.proofs.Order.{fact_same, same_refl, same_eq}
 use Rattle.store.proofs.Sets.{by_bool, rising_with, rising_without, with_present, without_absent, length_with_absent}
 use Rattle.gridstore.specs.Binary.{bit_set, bit_cleared, bit_test}
 use Rattle.store.proofs.Members.{same_bool, holds_append, before_all_members, rising_append, same_members, holds_with, holds_without, first_is, first_none}

@@ -1,10 +1,10 @@
 -- The item at the front of what is left, and the rest.
-use Rattle.std.proofs.Common.{◌≡◌, ℕ, ◌+◌, ◌<◌, ◌≤◌, Bool, true, false, cond, eqb, List, [], ◌∷◌, length, ℤ, Some, None, Option, sym, refl, ap, ◌∙◌, subst, arith, ne_eqb}
+use Rattle.std.proofs.Common.{◌≡◌, ℕ, ◌<◌, Bool, true, false, cond, eqb, List, [], ◌∷◌, length, ℤ, Some, None, Option, sym, refl, ◌∙◌, arith, ne_eqb}
 use Rattle.items.specs.declared.item.Place.{Place}
 use Rattle.items.specs.declared.item.Item.{Item}
 use Rattle.items.specs.declared.cut.Class.{Class}
 use Rattle.items.specs.declared.cut.Class.TheVariants as class
-use Rattle.items.specs.Items.{runs, before, joins, first, past, spelt, by_class, number_of, item_of, items_from, end_from}
+use Rattle.items.specs.Items.{runs, before, joins, past, spelt, by_class, number_of, item_of, items_from, end_from}
 use Rattle.items.specs.Cursors.{first_item, other_items, place_of}
 
 -- an item stands at the place it was given

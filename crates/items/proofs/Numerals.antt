@@ -1,5 +1,5 @@
 -- A number's one spelling is read as it, and nothing else is.
-use Rattle.std.proofs.Common.{◌≡◌, ℕ, zero, suc, ◌+◌, ◌-◌, ◌*◌, ◌^◌, ◌<◌, ◌≤◌, Bool, true, false, cond, ◌&&◌, eqb, leb, ◌⊎◌, List, [], ◌∷◌, ◌++◌, length, get_or, ℤ, pos, negsuc, neg_ℤ, Some, None, decimal, Option, sym, refl, ap, ◌∙◌, subst, inl, inr, arith, rules, ne_eqb, eqb-true, le-leb, leb-true}
+use Rattle.std.proofs.Common.{◌≡◌, ℕ, zero, suc, ◌+◌, ◌-◌, ◌*◌, ◌^◌, ◌<◌, ◌≤◌, Bool, true, false, cond, ◌&&◌, eqb, leb, List, [], ◌∷◌, length, get_or, ℤ, pos, negsuc, Some, None, decimal, Option, sym, refl, ap, ◌∙◌, arith, rules, ne_eqb, eqb-true, le-leb, leb-true}
 use borrow.Author.Tests.{lt-leb, eqb-false}
 use lib.Signed.{mag}
 use Rattle.std.proofs.lemmas.Bool.{and_parts}
@@ -9,8 +9,7 @@ use Rattle.std.specs.Fmt.{signed_decimal}
 use Rattle.items.specs.declared.cut.Class.{Class}
 use Rattle.items.specs.declared.cut.Class.TheVariants as class
 use Rattle.items.specs.Items.{class_of, between, digit_after, read_on, zero_alone, natural, plain, minus, number_of}
-use Rattle.items.proofs.Numbers.{Digit, digit}
-use Rattle.items.proofs.Tests.{apart}
+use Rattle.items.proofs.Numbers.{digit}
 
 abbrev value_on : ℕ → List ℕ → ℕ
 value_on n [] = n

@@ -1,7 +1,7 @@
 -- The first run of a text.
-use Rattle.std.proofs.Common.{◌≡◌, ℕ, zero, suc, ◌+◌, ◌-◌, ◌<◌, ◌≤◌, Bool, true, false, cond, List, [], ◌∷◌, ◌++◌, length, get_or, take, drop, sym, refl, ap, ◌∙◌, subst, inl, inr, arith}
+use Rattle.std.proofs.Common.{◌≡◌, ℕ, zero, suc, ◌+◌, ◌-◌, ◌<◌, ◌≤◌, true, false, cond, List, [], ◌∷◌, length, get_or, take, drop, refl, subst, inl, inr, arith}
 use Rattle.std.proofs.str.Laws.{order}
-use Rattle.items.specs.Items.{joins, before, runs, first}
+use Rattle.items.specs.Items.{joins, before, runs}
 
 -- a text's first run begins with its first byte
 record Begins (y : ℕ) (ys : List ℕ) : Type 0 where

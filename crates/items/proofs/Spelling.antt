@@ -1,24 +1,20 @@
 -- Items and their bytes: a text is the bytes of its items, and their bytes are cut into them again.
-use Rattle.std.proofs.Common.{◌≡◌, ℕ, zero, suc, ◌+◌, ◌<◌, ◌≤◌, Bool, true, false, cond, ◌&&◌, ◌||◌, eqb, leb, ◌⊎◌, List, [], ◌∷◌, ◌++◌, length, get_or, ℤ, pos, negsuc, Some, None, codes, Option, sym, refl, ap, ◌∙◌, subst, inl, inr, arith, eqb-true}
+use Rattle.std.proofs.Common.{◌≡◌, ℕ, ◌<◌, Bool, true, false, cond, eqb, ◌⊎◌, List, [], ◌∷◌, ◌++◌, ℤ, pos, Some, None, codes, Option, sym, refl, ap, ◌∙◌, subst, inl, inr, arith, eqb-true}
 use lib.Signed.{mag}
 use Rattle.std.proofs.lemmas.Bool.{and_parts}
 use Rattle.std.specs.Str.{bytes_eq}
-use Rattle.std.specs.Fmt.{signed_decimal}
 use Rattle.items.specs.declared.item.Place.{Place}
 use Rattle.items.specs.declared.item.Form.{Form}
-use Rattle.items.specs.declared.item.Form.TheVariants as form
 use Rattle.items.specs.declared.item.Kind.{Kind}
 use Rattle.items.specs.declared.item.Kind.TheVariants as kind
 use Rattle.items.specs.declared.cut.Class.{Class}
 use Rattle.items.specs.declared.cut.Class.TheVariants as class
-use Rattle.items.specs.declared.item.Item.{Item}
-use Rattle.items.specs.Items.{between, letter, digit, class_of, is_letter, is_digit, joins, before, runs, first, past, query_words, connective_words, future_words, past_words, look_up, or_else, form_word, form_kind, word_kind, number_of, spelt, unnumbered, by_class, item_of, items_from, items, start}
+use Rattle.items.specs.Items.{letter, digit, class_of, is_letter, is_digit, joins, before, runs, past, query_words, connective_words, future_words, past_words, look_up, or_else, form_word, form_kind, number_of, spelt, by_class, item_of, items_from, items, start}
 use Rattle.items.specs.Tokens.{word_text}
 use Rattle.items.specs.Tokens.{Token, plain, number, token_of, token, tokens}
-use Rattle.items.specs.Tokens.{kind_text, token_text, spell}
+use Rattle.items.specs.Tokens.{token_text, spell}
 use Rattle.items.proofs.Tests.{apart}
-use Rattle.items.proofs.Numerals.{most, number_sound, number_complete}
-use Rattle.items.proofs.Runs.{alone}
+use Rattle.items.proofs.Numerals.{most, number_sound}
 
 -- an item that has a text
 abbrev pub SpelledKind : Kind → Type 0

@@ -1,8 +1,8 @@
 -- A fact's place in a rising list.
-use Rattle.std.specs.Prelude.{◌≡◌, ℕ, zero, suc, ◌+◌, ◌<◌, ◌≤◌, Bool, true, false, cond, not, ◌&&◌, ◌||◌, ◌⊎◌, List, [], ◌∷◌, ◌++◌, length, Some, None, Option, ◌==◌, slice_index_or, refl}
-use Rattle.std.proofs.Common.{sym, ap, ◌∙◌, subst, inl, inr, zero-le, suc-le-suc, le_of_suc-le-suc, not-suc-le-zero, arith}
+use Rattle.std.specs.Prelude.{◌≡◌, ℕ, zero, suc, ◌<◌, ◌≤◌, true, false, cond, ◌||◌, List, [], ◌∷◌, length, Some, None, ◌==◌, slice_index_or, refl}
+use Rattle.std.proofs.Common.{sym, ap, subst, zero-le, suc-le-suc, le_of_suc-le-suc, not-suc-le-zero, arith}
 use Rattle.std.specs.List.{insert, remove, slice_get}
-use Rattle.std.proofs.lemmas.Bool.{and_parts, and_from, both_ways, or_cases, or_from, or_parts, or_left, or_right, and_right, cases_Bool, eq-eqb, ne_eqb}
+use Rattle.std.proofs.lemmas.Bool.{and_parts, and_from, both_ways, or_from, or_left, or_right, and_right}
 use Rattle.std.proofs.lemmas.Bool.Decides.{nat_tests}
 use Rattle.store.specs.declared.facts.Fact.{Fact}
 use Rattle.store.specs.Facts.{before, same, before_all, rising, holds, with_fact, without_fact, at_or_after, first_from, in_range}

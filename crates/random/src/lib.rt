@@ -1,5 +1,6 @@
 //! A small generator of numbers for tests and measurements, the same at every run.
 #![tactic(auto)]
+
 ghost use Rattle.std.specs.Prelude.{◌≡◌};
 ghost use Rattle.random.specs.Sequence.{next_state, drawn};
 

@@ -1,7 +1,7 @@
 -- Lines of states.
-use Rattle.std.proofs.Common.{◌≡◌, ℕ, zero, suc, ◌+◌, ◌-◌, ◌^◌, ◌<◌, ◌≤◌, true, false, cond, List, [], ◌∷◌, ◌++◌, length, get_or, take, drop, is_ok, is_err, Ok, Err, codes, decimal, Result, sym, refl, ap, ◌∙◌, subst, ap₂, ⊎_elim, true≢false, append_assoc, append-nil, arith, take-append-drop, take-add}
+use Rattle.std.proofs.Common.{◌≡◌, ℕ, ◌+◌, ◌-◌, ◌^◌, ◌<◌, ◌≤◌, true, false, cond, List, [], ◌∷◌, ◌++◌, length, get_or, take, drop, is_ok, is_err, Ok, Err, codes, decimal, Result, sym, refl, ap, ◌∙◌, subst, ap₂, ⊎_elim, true≢false, append_assoc, append-nil, arith, take-append-drop, take-add}
 use Rattle.std.specs.Int.{IsInRange}
-use Rattle.std.proofs.lemmas.List.{length-append, length-take, length-drop, length_push, get_or_append_left, get_or-append_right, get_or_push, take_at, drop_at, drop_more, drop-drop, drop_all, take_more, take_all, get_or-drop, take-append-le}
+use Rattle.std.proofs.lemmas.List.{length-append, length-take, length-drop, length_push, get_or_append_left, get_or_push, take_at, drop_at, drop_more, drop-drop, drop_all, take_more, take_all}
 use Rattle.std.proofs.lemmas.Bool.{cases_lt}
 use Rattle.recordtext.specs.Texts.{state_body, state_line, record_text, Small, Outside, Bad}
 use Rattle.recordtext.specs.Reads.{numbers}

@@ -1,5 +1,5 @@
 -- What reading a record's text answers.
-use Rattle.std.specs.Prelude.{◌≡◌, ℕ, ◌+◌, ◌^◌, ◌<◌, ◌≤◌, List, ◌++◌, length, take, Some, None, Ok, Err, vec_items, codes, decimal, Option, Result, ◌≢◌}
+use Rattle.std.specs.Prelude.{◌≡◌, ℕ, ◌^◌, ◌<◌, ◌≤◌, List, ◌++◌, length, take, Some, None, Ok, Err, vec_items, codes, decimal, Option, Result, ◌≢◌}
 use Rattle.recordtext.specs.declared.state.State.{State}
 use Rattle.recordtext.specs.declared.state.StateLine.{StateLine}
 use Rattle.recordtext.specs.declared.state.RecordText.{RecordText}

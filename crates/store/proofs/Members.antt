@@ -1,10 +1,10 @@
 -- A set of facts by its members: two rising lists with the same members are one.
-use Rattle.std.proofs.Common.{◌≡◌, Bool, true, false, cond, not, ◌&&◌, ◌||◌, ◌⊎◌, List, [], ◌∷◌, ◌++◌, Some, None, Option, sym, refl, ap, ◌∙◌, subst, inl, inr, ⊎_elim, arith}
-use Rattle.std.proofs.lemmas.Bool.{and_parts, and_from, both_ways, or_cases, or_from, or_parts, or_left, or_right}
+use Rattle.std.proofs.Common.{◌≡◌, Bool, true, false, not, ◌&&◌, ◌||◌, List, [], ◌∷◌, ◌++◌, Some, None, sym, refl, ap, ◌∙◌, subst, ⊎_elim}
+use Rattle.std.proofs.lemmas.Bool.{and_parts, and_from, both_ways, or_cases, or_left, or_right}
 use Rattle.store.specs.declared.facts.Fact.{Fact}
 use Rattle.store.specs.Facts.{before, same, before_all, rising, holds, with_fact, without_fact, at_or_after, first_from}
 use Rattle.store.proofs.Order.{before_irrefl, before_trans, before_connex, same_refl, same_eq}
-use Rattle.store.proofs.Sets.{by_bool, absent_before_all, before_all_trans}
+use Rattle.store.proofs.Sets.{by_bool, absent_before_all}
 
 pub same_bool : (a b : Bool) → (a ≡ true → b ≡ true) → (b ≡ true → a ≡ true) → a ≡ b
 same_bool true b f g = sym (f refl)

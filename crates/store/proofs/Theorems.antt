@@ -1,11 +1,10 @@
 -- What the equations of a store's calls come to in the words of sets.
-use Rattle.std.proofs.Common.{◌≡◌, ℕ, suc, ◌+◌, Bool, true, false, not, ◌&&◌, ◌||◌, eqb, ◌⊎◌, List, [], ◌∷◌, length, Some, None, Ok, Err, Option, Result, sym, refl, ap, ◌∙◌, subst, inl, inr, ⊎_elim, arith}
-use Rattle.std.proofs.lemmas.Bool.{both_ways, or_cases, or_left, or_right, and_parts, and_from, eqb-true, eqb-false}
+use Rattle.std.proofs.Common.{◌≡◌, ◌+◌, Bool, true, false, not, eqb, ◌⊎◌, List, [], ◌∷◌, length, Some, None, Option, Result, sym, refl, ap, ◌∙◌, subst, inl, inr, ⊎_elim, arith}
+use Rattle.std.proofs.lemmas.Bool.{both_ways, or_cases, or_left, or_right, and_parts, and_from, eqb-true}
 use Rattle.store.specs.declared.facts.Fact.{Fact}
 use Rattle.store.specs.declared.stores.StoreFault.{StoreFault}
-use Rattle.store.specs.declared.stores.StoreFault.TheVariants.{NotTaken, Full}
 use Rattle.store.specs.Facts.{before, same, rising, holds, with_fact, without_fact, at_or_after, first_from}
-use Rattle.store.specs.Stores.{Meaning, Lawful, put_answer, after_put, after_drop, answer_number}
+use Rattle.store.specs.Stores.{Meaning, Lawful, put_answer, after_put, after_drop}
 use Rattle.store.specs.Members.{◌∈◌, ◌⇔◌, SetOf, SameStore, PutDid, PutResult, DropResult, WalkResult}
 use Rattle.store.proofs.Order.{before_irrefl, same_refl, same_eq}
 use Rattle.store.proofs.Sets.{by_bool, not_same, before_asym, rising_with, rising_without, with_present, without_absent, length_with_absent, length_without_present}

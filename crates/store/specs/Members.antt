@@ -1,5 +1,5 @@
 -- What a store's calls do, in the words of sets.
-use Rattle.std.specs.Prelude.{◌≡◌, ℕ, ◌+◌, Bool, true, false, ◌⊎◌, List, [], ◌∷◌, length, Some, None, Ok, Err, Option, Result, ◌≢◌}
+use Rattle.std.specs.Prelude.{◌≡◌, ◌+◌, Bool, true, false, ◌⊎◌, List, [], ◌∷◌, length, Some, None, Ok, Err, Option, Result, ◌≢◌}
 use Rattle.store.specs.declared.facts.Fact.{Fact}
 use Rattle.store.specs.declared.stores.StoreFault.{StoreFault}
 use Rattle.store.specs.declared.stores.StoreFault.TheVariants.{NotTaken, Full}

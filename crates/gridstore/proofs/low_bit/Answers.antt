@@ -1,5 +1,4 @@
-use Rattle.std.proofs.Common.{◌≡◌, true, false, ℤ, pos, nat_abs, sym, ap, subst, arith, w32, SFits, rules}
-use lib.Signed.{le_z, lt_z}
+use Rattle.std.proofs.Common.{ℤ, nat_abs, sym, subst, arith, w32, SFits, rules}
 use Rattle.std.proofs.lemmas.Int.{to_z-of_z}
 use Rattle.gridstore.specs.Grid.{LowBit}
 use Rattle.gridstore.specs.Grids.{low_at_once, low_at_zero, low_at_none, low_at_value}

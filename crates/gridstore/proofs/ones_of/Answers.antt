@@ -1,4 +1,4 @@
-use Rattle.std.proofs.Common.{◌≡◌, get_or, arith, w64, Fits, rules}
+use Rattle.std.proofs.Common.{get_or, arith, w64, Fits, rules}
 use Rattle.gridstore.specs.Grids.{count_more, count_all, words_length}
 use Rattle.gridstore.proofs.ones_of.Goals as goal
 

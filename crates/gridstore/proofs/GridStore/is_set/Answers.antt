@@ -1,4 +1,4 @@
-use Rattle.std.proofs.Common.{◌≡◌, Bool, sym, ◌∙◌}
+use Rattle.std.proofs.Common.{sym}
 use Rattle.gridstore.specs.Grids.{not_held, grid_contains, absent_taken_not, test_cases}
 use Rattle.gridstore.proofs.GridStore.is_set.Goals as goal
 

@@ -1,4 +1,4 @@
-use Rattle.std.proofs.Common.{◌≡◌, true, false, get_or, sym, ◌∙◌, arith}
+use Rattle.std.proofs.Common.{◌≡◌, true, get_or, sym, ◌∙◌, arith}
 use Rattle.items.specs.Items.{digit_after}
 use Rattle.items.proofs.Numbers.{digit, more, ends, all}
 use Rattle.items.proofs.number.value.Goals as goal

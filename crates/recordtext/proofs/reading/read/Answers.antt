@@ -1,4 +1,4 @@
-use Rattle.std.proofs.Common.{◌≡◌, ◌<◌, length, vec_items, sym, ap, ◌∙◌, subst, ap₂, arith}
+use Rattle.std.proofs.Common.{length, sym, ap, ◌∙◌, subst, ap₂, arith}
 use Rattle.std.proofs.lemmas.List.{take_all}
 use Rattle.recordtext.specs.Texts.{record_text, Small}
 use Rattle.recordtext.proofs.States.{small_push, pushed, lines_paired, lines_more, line_within, bad_here}
