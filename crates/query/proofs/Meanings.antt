@@ -1,11 +1,11 @@
 -- The answers say what the queries mean.
-use Rattle.std.proofs.Common.{◌≡◌, ℕ, ◌≤◌, Bool, true, false, cond, not, ◌&&◌, ◌||◌, eqb, leb, List, [], ◌∷◌, length, ℤ, ◌≤ℤ◌, sym, refl, ap, ◌∙◌, subst, ⊎_elim, arith}
+use Rattle.std.proofs.Common.{◌≡◌, ℕ, Bool, true, false, not, ◌&&◌, ◌||◌, eqb, List, [], ◌∷◌, ℤ, ◌≤ℤ◌, sym, refl, ap, ◌∙◌, subst, ⊎_elim, arith}
 use lib.Signed.{le_z}
 use Rattle.std.proofs.lemmas.Bool.{both_ways, and_parts, and_from, or_cases, or_left, or_right, eq-eqb, eqb-true, leb-true, le-leb}
 use Rattle.std.proofs.lemmas.Bool.Decides.{nat_tests}
 use Rattle.std.proofs.lemmas.Int.{ints}
 use Rattle.store.specs.declared.facts.Fact.{Fact}
-use Rattle.store.specs.Facts.{holds, same, of_relation, value_in}
+use Rattle.store.specs.Facts.{of_relation, value_in}
 use Rattle.store.proofs.Order.{same_refl, same_eq}
 use Rattle.store.proofs.Sets.{by_bool}
 use Rattle.syntax.specs.declared.Query.{Query}

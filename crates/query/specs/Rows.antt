@@ -1,5 +1,5 @@
 -- Rows of answers: one bit for each node.
-use Rattle.std.specs.Prelude.{◌≡◌, ℕ, ◌+◌, ◌*◌, ◌<◌, Bool, true, false, cond, List, [], ◌∷◌, length, ◌≢◌, slice_index_or}
+use Rattle.std.specs.Prelude.{◌≡◌, ℕ, ◌+◌, ◌*◌, ◌<◌, false, cond, List, [], ◌∷◌, length, ◌≢◌, slice_index_or}
 use Rattle.store.specs.declared.facts.Fact.{Fact}
 use Rattle.syntax.specs.Rows.{bit_of}
 use Rattle.syntax.specs.declared.Query.{Query}

@@ -1,5 +1,5 @@
 -- What a walk through a relation looks for.
-use Rattle.std.specs.Prelude.{ℕ, suc, Bool, true, false, cond, List, [], ◌∷◌, negsuc, Some, None, Option, ◌==◌, int_le}
+use Rattle.std.specs.Prelude.{ℕ, suc, Bool, true, cond, List, [], ◌∷◌, negsuc, Some, None, Option, ◌==◌, int_le}
 use Rattle.std.specs.Bool.{beq}
 use Rattle.store.specs.declared.facts.Fact.{Fact}
 use Rattle.store.specs.Facts.{fact_of, of_relation, value_in}

@@ -10,7 +10,7 @@ use syntax::Query;
 
 /// Whether the relation has from `low` to `high` facts. Cost: each fact of the relation once, up to one more than `high`.
 fn has_number<S: Store>(store: &S, relation: u8, low: u32, high: u32) -> bool
-    ensures { result ≡ (nat_le low (length (of_relation relation (meaning store.now).facts)) && nat_le (length (of_relation relation (meaning store.now).facts)) high) }
+    ensures { result ≡ (nat_le low (length (of_relation relation (S.meaning store.now).facts)) && nat_le (length (of_relation relation (S.meaning store.now).facts)) high) }
 {
     let most = high as usize;
     let found = count_up_to(store, relation, Test::Present, true, most + 1);
@@ -20,14 +20,14 @@ fn has_number<S: Store>(store: &S, relation: u8, low: u32, high: u32) -> bool
 /// The query's answer on the facts of the store.
 /// Cost: each fact of the query's relation at most once, with one walk more for each by `Refer` and `Level`; `Fact` is one question.
 pub fn ask<S: Store>(store: &S, query: Query) -> bool
-    ensures value { result ≡ answer query (meaning store.now).facts }
-    ensures words { Says result (Meant query (meaning store.now).facts) }
+    ensures value { result ≡ answer query (S.meaning store.now).facts }
+    ensures words { Says result (Meant query (S.meaning store.now).facts) }
 {
     answer_of(store, query)
 }
 
 pub fn answer_of<S: Store>(store: &S, query: Query) -> bool
-    ensures { result ≡ answer query (meaning store.now).facts }
+    ensures { result ≡ answer query (S.meaning store.now).facts }
 {
     match query {
         Query::Some(relation, low, high) => any(store, relation, Test::Value(low, high)),

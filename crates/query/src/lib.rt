@@ -2,6 +2,7 @@
 //!
 //! A query walks from fact to fact of its relation; the store is only asked, never changed.
 #![tactic(auto)]
+
 mod answers;
 mod rows;
 mod walks;

@@ -11,7 +11,7 @@ use syntax::Node;
 
 /// What a node answers: a query node its query, every other node no.
 fn node_answer<S: Store>(store: &S, node: Node) -> bool
-    ensures { result ≡ node_answer node (meaning store.now).facts }
+    ensures { result ≡ node_answer node (S.meaning store.now).facts }
 {
     match node {
         Node::Query(query) => answer_of(store, query),
@@ -29,15 +29,15 @@ fn with_low_bit(row: u64, answer: bool) -> u64
 
 /// The row of the table's nodes on the facts of the store. Cost: that of each query of the table once.
 pub fn row<S: Store>(store: &S, table: &Table) -> u64
-    ensures value { result ≡ row_of (nodes_of table.now) (meaning store.now).facts }
-    ensures answers { Answers (nodes_of table.now) (meaning store.now).facts result }
+    ensures value { result ≡ row_of (nodes_of table.now) (S.meaning store.now).facts }
+    ensures answers { Answers (nodes_of table.now) (S.meaning store.now).facts result }
 {
     row_of(store, table.nodes())
 }
 
 fn row_of<S: Store>(store: &S, nodes: &[Node]) -> u64
     requires { length nodes.now ≤ 64 }
-    ensures { result ≡ row_of nodes.now (meaning store.now).facts }
+    ensures { result ≡ row_of nodes.now (S.meaning store.now).facts }
 {
     let mut row: u64 = 0;
     for m in (0..nodes.len()).rev() {

@@ -42,15 +42,15 @@ fn at_same_key(fact: Fact, found: Option<Fact>) -> Option<Fact>
 
 /// The fact with the least value among those of the relation at the key of `fact`. Cost: one walk.
 fn least_beside<S: Store>(store: &S, relation: u8, fact: Fact) -> Option<Fact>
-    ensures key { is_some result ≡ has_key_of fact (of_relation relation (meaning store.now).facts) }
-    ensures level { level_beside fact result ≡ level_with fact (of_relation relation (meaning store.now).facts) }
+    ensures key { is_some result ≡ has_key_of fact (of_relation relation (S.meaning store.now).facts) }
+    ensures level { level_beside fact result ≡ level_with fact (of_relation relation (S.meaning store.now).facts) }
 {
     at_same_key(fact, store.walk(start_at(relation, fact.key)))
 }
 
 /// Whether the relation has the key of `fact`. Cost: one walk.
 fn has_key<S: Store>(store: &S, relation: u8, fact: Fact) -> bool
-    ensures { result ≡ has_key_of fact (of_relation relation (meaning store.now).facts) }
+    ensures { result ≡ has_key_of fact (of_relation relation (S.meaning store.now).facts) }
 {
     least_beside(store, relation, fact).is_some()
 }
@@ -58,7 +58,7 @@ fn has_key<S: Store>(store: &S, relation: u8, fact: Fact) -> bool
 /// Whether the value of `fact` is at most every value of the relation at its key.
 /// Cost: one walk, since a value that is at most the least is at most each.
 fn is_level<S: Store>(store: &S, relation: u8, fact: Fact) -> bool
-    ensures { result ≡ level_with fact (of_relation relation (meaning store.now).facts) }
+    ensures { result ≡ level_with fact (of_relation relation (S.meaning store.now).facts) }
 {
     match least_beside(store, relation, fact) {
         Some(least) => fact.value <= least.value,
@@ -68,7 +68,7 @@ fn is_level<S: Store>(store: &S, relation: u8, fact: Fact) -> bool
 
 /// Whether the fact meets the test. Cost: at most one walk.
 fn is_met<S: Store>(store: &S, test: Test, fact: Fact) -> bool
-    ensures { result ≡ meets test (meaning store.now).facts fact }
+    ensures { result ≡ meets test (S.meaning store.now).facts fact }
 {
     match test {
         Test::Present => true,
@@ -86,7 +86,7 @@ pub fn count_up_to<S: Store>(
     answer: bool,
     enough: usize,
 ) -> usize
-    ensures { result ≡ min (counted answer (meets test (meaning store.now).facts) (of_relation relation (meaning store.now).facts)) enough }
+    ensures { result ≡ min (counted answer (meets test (S.meaning store.now).facts) (of_relation relation (S.meaning store.now).facts)) enough }
 {
     let mut found: usize = 0;
     let mut at = Fact::least_of(relation);
@@ -104,14 +104,14 @@ pub fn count_up_to<S: Store>(
 
 /// Whether some fact of the relation meets the test. Cost: the facts of the relation up to the first that does.
 pub fn any<S: Store>(store: &S, relation: u8, test: Test) -> bool
-    ensures { result ≡ any_of (meets test (meaning store.now).facts) (of_relation relation (meaning store.now).facts) }
+    ensures { result ≡ any_of (meets test (S.meaning store.now).facts) (of_relation relation (S.meaning store.now).facts) }
 {
     count_up_to(store, relation, test, true, 1) == 1
 }
 
 /// Whether every fact of the relation meets the test. Cost: the facts of the relation up to the first that does not.
 pub fn all<S: Store>(store: &S, relation: u8, test: Test) -> bool
-    ensures { result ≡ all_of (meets test (meaning store.now).facts) (of_relation relation (meaning store.now).facts) }
+    ensures { result ≡ all_of (meets test (S.meaning store.now).facts) (of_relation relation (S.meaning store.now).facts) }
 {
     count_up_to(store, relation, test, false, 1) == 0
 }
