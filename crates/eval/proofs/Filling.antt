@@ -1,5 +1,5 @@
 -- The places of one node after another are filled with the values of their formulas.
-use Rattle.std.proofs.Common.{◌≡◌, ℕ, zero, suc, ◌+◌, ◌-◌, ◌*◌, ◌/◌, ◌%◌, ◌<◌, ◌≤◌, leb, List, [], map, length, get_or, take, set, sym, refl, ap, ◌∙◌, subst, ⊎_elim, add-mul, one-mul, mul-zero, zero-mul, arith, get_or-set_other, get_or-set_same}
+use Rattle.std.proofs.Common.{◌≡◌, ℕ, zero, suc, ◌+◌, ◌-◌, ◌*◌, ◌/◌, ◌%◌, ◌<◌, ◌≤◌, leb, List, [], map, length, get_or, set, sym, refl, ap, ◌∙◌, subst, ⊎_elim, add-mul, one-mul, mul-zero, zero-mul, arith, get_or-set_other, get_or-set_same}
 use Rattle.std.proofs.lemmas.Nat.{div-add-mod', div_below, mod_below}
 use Rattle.std.proofs.lemmas.List.{length-append, length-map, get_or_append_left, get_or-append_right, get_or-map, get_or_default, same_lists}
 use Rattle.std.proofs.lemmas.Bool.{cases_eq, cases_lt, lt-leb}
@@ -8,7 +8,7 @@ use Rattle.syntax.specs.Formula.{Formula}
 use Rattle.syntax.specs.Formula.Formula.{Truth}
 use Rattle.syntax.specs.declared.Node.{Node}
 use Rattle.syntax.specs.declared.Node.TheVariants as node
-use Rattle.syntax.specs.Nodes.{formula, formulas, formula_at, place, Ordered}
+use Rattle.syntax.specs.Nodes.{formulas, formula_at, place, Ordered}
 use Rattle.eval.specs.Columns.{value_at}
 use Rattle.eval.specs.Steps.{node_value, kept_of, Filled}
 use Rattle.eval.specs.Truth.{all, Record, count, value}

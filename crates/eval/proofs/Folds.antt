@@ -1,5 +1,5 @@
 -- How the or and the and over states are worked out: from the first state on, from the last state back, and not past a window.
-use Rattle.std.proofs.Common.{◌≡◌, ℕ, zero, suc, ◌+◌, ◌-◌, ◌<◌, ◌≤◌, Bool, true, false, cond, ◌&&◌, ltb, leb, sym, refl, ap, ◌∙◌, ap₂, ⊎_elim, add-one, arith}
+use Rattle.std.proofs.Common.{◌≡◌, ℕ, zero, suc, ◌<◌, ◌≤◌, Bool, false, leb, sym, refl, ap, ◌∙◌, ap₂, ⊎_elim, arith}
 use native.Mathlib.Decide.{le_ind}
 use Rattle.std.proofs.lemmas.Bool.{le-leb, lt-leb, cond-true, cond-false, cases_lt}
 use Rattle.truth.specs.Kinds.{Kind, Laws}

@@ -1,13 +1,11 @@
 -- Persistence, agreement, soundness and definite values of finished records: four uses of related kinds.
-use Rattle.std.proofs.Common.{◌≡◌, ℕ, ◌<◌, ◌≤◌, Bool, true, false, not, ◌&&◌, ◌||◌, ◌⊎◌, sym, refl, ap, ◌∙◌, ap₂, inl, inr, ⊎_elim, arith}
+use Rattle.std.proofs.Common.{◌≡◌, ◌<◌, Bool, true, false, not, ◌&&◌, ◌||◌, sym, refl, ap, ◌∙◌, ap₂, inl, inr, arith}
 use mathlib.Core.Bool.{and-false, or_self}
-use Rattle.truth.specs.Kinds.{Laws}
 use Rattle.truth.specs.Kleene.{plain, three, and3, or3, not3, embed, Definite}
 use Rattle.truth.specs.declared.Three.{Three}
 use Rattle.truth.specs.declared.Three.TheVariants.{True, False, Undecided}
-use Rattle.syntax.specs.Formula.{Formula}
-use Rattle.eval.specs.Truth.{Record, count, stamp, value}
-use Rattle.eval.proofs.Theorems.{Rising, Begins, Embeds, Persistence, Agreement, Soundness, FinishedDefinite}
+use Rattle.eval.specs.Truth.{Record, count}
+use Rattle.eval.proofs.Theorems.{Embeds, Persistence, Agreement, Soundness, FinishedDefinite}
 use Rattle.eval.proofs.KindLaws.{plain_laws, three_laws, or3_self}
 use Rattle.eval.proofs.Related.{Respects, Absorbs, related}
 

@@ -1,7 +1,7 @@
 -- What stays true of a verdict as its record grows.
-use Rattle.std.proofs.Common.{◌≡◌, ℕ, ◌+◌, ◌-◌, ◌<◌, ◌≤◌, Bool, true, false, Some}
+use Rattle.std.proofs.Common.{◌≡◌, ℕ, ◌+◌, ◌-◌, ◌<◌, ◌≤◌, Bool, false, Some}
 use Rattle.truth.specs.declared.Three.{Three}
-use Rattle.truth.specs.declared.Three.TheVariants.{True, False, Undecided}
+use Rattle.truth.specs.declared.Three.TheVariants.{False, Undecided}
 use Rattle.truth.specs.Kleene.{plain, three, embed, Definite}
 use Rattle.syntax.specs.Formula.{Formula, reach, ahead}
 use Rattle.eval.specs.Truth.{Record, count, stamp, value}

@@ -1,12 +1,12 @@
 -- One turn of an operator's loop, and what the loop then comes to: d is a distance, t the test, y the value at the state, z what is joined.
-use Rattle.std.proofs.Common.{◌≡◌, ℕ, zero, suc, ◌+◌, ◌-◌, ◌<◌, ◌≤◌, Bool, true, false, cond, ◌&&◌, ltb, leb, length, sym, refl, ap, ◌∙◌, subst, ap₂, ⊎_elim, arith}
-use Rattle.std.proofs.lemmas.Bool.{le-leb, lt-leb, lt-ltb, le-ltb, and_left, and_right, cond-true, cond-false}
+use Rattle.std.proofs.Common.{◌≡◌, ℕ, zero, suc, ◌+◌, ◌-◌, ◌<◌, ◌≤◌, Bool, true, false, cond, ◌&&◌, ltb, leb, sym, refl, ap, ◌∙◌, ap₂, arith}
+use Rattle.std.proofs.lemmas.Bool.{le-leb, lt-leb, lt-ltb, and_left, and_right, cond-true}
 use Rattle.truth.specs.Kinds.{Kind, Laws}
 use Rattle.syntax.specs.declared.Window.{Window}
-use Rattle.eval.specs.Truth.{any, all, Record, count, stamp, below, within, future, past, mark, sometime, until, next, since, previous}
+use Rattle.eval.specs.Truth.{any, all, Record, count, stamp, below, within, future, past, next}
 use Rattle.eval.specs.Stamps.{rising, span}
 use Rattle.eval.proofs.Stamps.{rises_le, beyond_far, beyond_out}
-use Rattle.eval.proofs.Folds.{no_or, yes_and, any_stop, any_none, all_none, all_front}
+use Rattle.eval.proofs.Folds.{no_or, any_stop, any_none, all_none, all_front}
 
 -- a test with a first part that is known
 test_true : {K : Type 0} (a b : Bool) (x y : K) → a ≡ true → cond (a && b) x y ≡ cond b x y

@@ -1,21 +1,16 @@
 -- The values in the places of the nodes are those of the formulas.
-use Rattle.std.proofs.Common.{◌≡◌, ℕ, zero, suc, ◌+◌, ◌-◌, ◌*◌, ◌/◌, ◌%◌, ◌<◌, ◌≤◌, Bool, true, false, cond, ltb, leb, List, [], ◌∷◌, ◌++◌, map, length, get_or, take, drop, set, sym, refl, ap, ◌∙◌, subst, ap₂, ⊎_elim, add-mul, mul-zero, zero-mul, arith, take-append-drop, length-take, get_or-set_other, get_or-set_same}
-use Rattle.std.proofs.lemmas.Nat.{div-add-mod', div_below, mod_below}
-use Rattle.std.proofs.lemmas.List.{length-append, length-map, length_push, get_or_append_left, get_or-append_right, get_or_push, get_or-map, get_or_default, drop_more, same_lists}
-use Rattle.std.proofs.lemmas.Bool.{cases_eq, cases_lt, ltb-true}
-use Rattle.truth.specs.Kinds.{Kind, Laws}
+use Rattle.std.proofs.Common.{◌≡◌, ℕ, zero, suc, ◌+◌, ◌<◌, ◌≤◌, Bool, true, false, cond, ltb, leb, List, [], ◌∷◌, ◌++◌, length, get_or, take, drop, sym, refl, ap, ◌∙◌, ap₂, arith, take-append-drop, length-take}
+use Rattle.std.proofs.lemmas.List.{length_push, get_or_append_left, get_or_push, drop_more}
+use Rattle.std.proofs.lemmas.Bool.{ltb-true}
+use Rattle.truth.specs.Kinds.{Kind}
 use Rattle.syntax.specs.Formula.{Formula}
 use Rattle.syntax.specs.Formula.Formula.{Truth}
 use Rattle.syntax.specs.declared.Node.{Node}
 use Rattle.syntax.specs.declared.Node.TheVariants as node
 use Rattle.syntax.specs.declared.Window.{Window}
-use Rattle.syntax.specs.Nodes.{formula, formulas, formulas_after, formula_at, place, Ordered}
-use Rattle.eval.specs.Columns.{value_at}
-use Rattle.eval.specs.Steps.{node_value, kept_of, Filled}
+use Rattle.syntax.specs.Nodes.{formula, formulas, formulas_after, formula_at, place}
+use Rattle.eval.specs.Steps.{node_value, kept_of}
 use Rattle.eval.specs.Truth.{any, all, Record, count, value, future, past, mark, sometime, until, next, since, previous}
-use Rattle.eval.specs.Values.{values_upto, all_values}
-use Rattle.eval.proofs.Places.{place_within, place_apart}
-use Rattle.eval.proofs.Folds.{all_front}
 
 -- ---- the formulas of a table
 

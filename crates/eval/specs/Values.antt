@@ -1,5 +1,5 @@
 -- The values of all nodes of a table at all states of a record.
-use Rattle.std.specs.Prelude.{ℕ, zero, suc, ◌*◌, cond, not, List, [], ◌++◌, map, length, Ok, Err, Result, ◌==◌}
+use Rattle.std.specs.Prelude.{ℕ, zero, suc, ◌*◌, cond, List, [], ◌++◌, map, length, Ok, Err, Result, ◌==◌}
 use Rattle.truth.specs.Kinds.{Kind}
 use Rattle.syntax.specs.declared.Node.{Node}
 use Rattle.syntax.specs.Formula.{Formula}

@@ -34,8 +34,8 @@ fn node_at<K: Truth, L: Leaves<K>>(
     requires within { (i < length stamps.now) × ((m < nodes) × (length values.now ≡ length stamps.now * nodes)) }
     requires rises { rising stamps.now ≡ true }
     requires before { place node ≤ m }
-    requires keeps { kept ≡ kept_of kind (value_at kind values.now nodes) (length stamps.now) i node }
-    ensures { result ≡ node_value kind (record_of stamps.now (leaf leaves.now) pending) (value_at kind values.now nodes) m node i }
+    requires keeps { kept ≡ kept_of K.kind (value_at K.kind values.now nodes) (length stamps.now) i node }
+    ensures { result ≡ node_value K.kind (record_of stamps.now (L.leaf leaves.now) pending) (value_at K.kind values.now nodes) m node i }
 {
     let n = stamps.len();
     match node {
@@ -80,8 +80,8 @@ fn node_at<K: Truth, L: Leaves<K>>(
 /// For an until, its first operand at every state from `i` on, where `later` is that from the next state on.
 fn kept_at<K: Truth>(node: Node, nodes: usize, states: usize, values: &[K], i: usize, later: K) -> K
     requires within { (i < states) × ((length values.now ≡ states * nodes) × (place node ≤ nodes)) }
-    requires keeps { later ≡ kept_of kind (value_at kind values.now nodes) states (i + 1) node }
-    ensures { result ≡ kept_of kind (value_at kind values.now nodes) states i node }
+    requires keeps { later ≡ kept_of K.kind (value_at K.kind values.now nodes) states (i + 1) node }
+    ensures { result ≡ kept_of K.kind (value_at K.kind values.now nodes) states i node }
 {
     match node {
         Node::Until(_, a, _) => value_of(values, states, nodes, a, i).and(later),
@@ -109,8 +109,8 @@ fn fill_node<K: Truth, L: Leaves<K>>(
     requires within { (m < length nodes.now) × (length values.old ≡ length stamps.now * length nodes.now) }
     requires rises { rising stamps.now ≡ true }
     requires ordered { Ordered nodes.now }
-    requires filled { Filled kind (record_of stamps.now (leaf leaves.now) pending) nodes.now values.old m }
-    ensures { Filled kind (record_of stamps.now (leaf leaves.now) pending) nodes.now values.new (m + 1) }
+    requires filled { Filled K.kind (record_of stamps.now (L.leaf leaves.now) pending) nodes.now values.old m }
+    ensures { Filled K.kind (record_of stamps.now (L.leaf leaves.now) pending) nodes.now values.new (m + 1) }
 {
     let node = nodes[m];
     let mut held = K::yes();
@@ -142,7 +142,7 @@ fn fill<K: Truth, L: Leaves<K>>(
     requires within { length values.old ≡ length stamps.now * length nodes.now }
     requires rises { rising stamps.now ≡ true }
     requires ordered { Ordered nodes.now }
-    ensures { values.new ≡ all_values kind (record_of stamps.now (leaf leaves.now) pending) nodes.now }
+    ensures { values.new ≡ all_values K.kind (record_of stamps.now (L.leaf leaves.now) pending) nodes.now }
 {
     for m in 0..nodes.len() {
         fill_node(nodes, m, stamps, leaves, pending, values);
@@ -171,7 +171,7 @@ pub fn evaluate<K: Truth, L: Leaves<K>>(
     values: &mut [K],
 ) -> Result<(), Misfit>
     ensures answer { result ≡ fit stamps.now (length (nodes_of table.now)) (length values.old) }
-    ensures values { values.new ≡ (if is_ok result then all_values kind (record_of stamps.now (leaf leaves.now) pending) (nodes_of table.now) else values.old) }
+    ensures values { values.new ≡ (if is_ok result then all_values K.kind (record_of stamps.now (L.leaf leaves.now) pending) (nodes_of table.now) else values.old) }
 {
     let nodes = table.nodes();
     if !has_room(stamps.len(), nodes.len(), values.len()) {

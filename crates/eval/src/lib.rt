@@ -1,5 +1,6 @@
 //! The truth of a table's nodes over the states of a record, for every truth kind.
 #![tactic(auto)]
+
 mod column;
 pub mod evaluator;
 pub mod leaves;

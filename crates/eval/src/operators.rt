@@ -14,7 +14,7 @@ use truth::Truth;
 
 /// The value where the test holds, else no.
 fn only_if<K: Truth>(test: bool, value: K) -> K
-    ensures { result ≡ (if test then value else kind.no) }
+    ensures { result ≡ (if test then value else K.kind.no) }
 {
     if test { value } else { K::no() }
 }
@@ -22,7 +22,7 @@ fn only_if<K: Truth>(test: bool, value: K) -> K
 /// The open mark of state `i`.
 fn open_mark<K: Truth>(stamps: &[u64], i: usize, w: Window, pending: K) -> K
     requires { i < length stamps.now }
-    ensures { result ≡ mark kind (timed kind stamps.now pending) w i }
+    ensures { result ≡ mark K.kind (timed K.kind stamps.now pending) w i }
 {
     if is_past(w, distance(stamps, i, stamps.len() - 1)) {
         K::no()
@@ -41,7 +41,7 @@ pub(crate) fn at_sometime<K: Truth>(
 ) -> K
     requires within { (i < length stamps.now) × (operand.now.states ≡ length stamps.now) }
     requires rises { rising stamps.now ≡ true }
-    ensures { result ≡ sometime kind (timed kind stamps.now pending) w (at kind operand.now) i }
+    ensures { result ≡ sometime K.kind (timed K.kind stamps.now pending) w (at K.kind operand.now) i }
 {
     let end = future_end(stamps, i, w);
     let mut any = K::no();
@@ -62,7 +62,7 @@ pub(crate) fn at_always<K: Truth>(
 ) -> K
     requires within { (i < length stamps.now) × (operand.now.states ≡ length stamps.now) }
     requires rises { rising stamps.now ≡ true }
-    ensures { result ≡ always kind (timed kind stamps.now pending) w (at kind operand.now) i }
+    ensures { result ≡ always K.kind (timed K.kind stamps.now pending) w (at K.kind operand.now) i }
 {
     at_sometime(stamps, &negation(operand), i, w, pending).not()
 }
@@ -70,8 +70,8 @@ pub(crate) fn at_always<K: Truth>(
 /// The second operand at state `j` where the first has held so far, and how the first holds with state `j`.
 fn turn<K: Truth>(first: &Column<'_, K>, second: &Column<'_, K>, held: K, j: usize) -> (K, K)
     requires { (j < first.now.states) × (j < second.now.states) }
-    ensures here { result.0 ≡ kind.and (at kind second.now j) held }
-    ensures on { result.1 ≡ kind.and held (at kind first.now j) }
+    ensures here { result.0 ≡ K.kind.and (at K.kind second.now j) held }
+    ensures on { result.1 ≡ K.kind.and held (at K.kind first.now j) }
 {
     let on = held.and(read(first, j));
     (read(second, j).and(held), on)
@@ -91,8 +91,8 @@ pub(crate) fn at_until<K: Truth>(
 ) -> K
     requires within { (i < length stamps.now) × ((first.now.states ≡ length stamps.now) × (second.now.states ≡ length stamps.now)) }
     requires rises { rising stamps.now ≡ true }
-    requires keeps { kept ≡ all kind (length stamps.now) (λ m. nat_le i m) (at kind first.now) }
-    ensures { result ≡ until kind (timed kind stamps.now pending) w (at kind first.now) (at kind second.now) i }
+    requires keeps { kept ≡ all K.kind (length stamps.now) (λ m. nat_le i m) (at K.kind first.now) }
+    ensures { result ≡ until K.kind (timed K.kind stamps.now pending) w (at K.kind first.now) (at K.kind second.now) i }
 {
     let end = future_end(stamps, i, w);
     let mut any = K::no();
@@ -114,7 +114,7 @@ pub(crate) fn at_next<K: Truth>(
     pending: K,
 ) -> K
     requires within { (i < length stamps.now) × (operand.now.states ≡ length stamps.now) }
-    ensures { result ≡ next kind (timed kind stamps.now pending) w (at kind operand.now) i }
+    ensures { result ≡ next K.kind (timed K.kind stamps.now pending) w (at K.kind operand.now) i }
 {
     let j = i + 1;
     if j < stamps.len() {
@@ -133,7 +133,7 @@ pub(crate) fn at_allnext<K: Truth>(
     pending: K,
 ) -> K
     requires within { (i < length stamps.now) × (operand.now.states ≡ length stamps.now) }
-    ensures { result ≡ allnext kind (timed kind stamps.now pending) w (at kind operand.now) i }
+    ensures { result ≡ allnext K.kind (timed K.kind stamps.now pending) w (at K.kind operand.now) i }
 {
     at_next(stamps, &negation(operand), i, w, pending).not()
 }
@@ -146,7 +146,7 @@ pub(crate) fn at_previous<K: Truth>(
     w: Window,
 ) -> K
     requires within { (i < length stamps.now) × (operand.now.states ≡ length stamps.now) }
-    ensures { result ≡ previous kind (timed kind stamps.now kind.no) w (at kind operand.now) i }
+    ensures { result ≡ previous K.kind (timed K.kind stamps.now K.kind.no) w (at K.kind operand.now) i }
 {
     if 0 < i {
         let j = i - 1;
@@ -166,7 +166,7 @@ pub(crate) fn at_since<K: Truth>(
 ) -> K
     requires within { (i < length stamps.now) × ((first.now.states ≡ length stamps.now) × (second.now.states ≡ length stamps.now)) }
     requires rises { rising stamps.now ≡ true }
-    ensures { result ≡ since kind (timed kind stamps.now kind.no) w (at kind first.now) (at kind second.now) i }
+    ensures { result ≡ since K.kind (timed K.kind stamps.now K.kind.no) w (at K.kind first.now) (at K.kind second.now) i }
 {
     let start = past_start(stamps, i, w);
     let mut any = K::no();
@@ -183,7 +183,7 @@ pub(crate) fn at_since<K: Truth>(
 pub(crate) fn at_once<K: Truth>(stamps: &[u64], operand: &Column<'_, K>, i: usize, w: Window) -> K
     requires within { (i < length stamps.now) × (operand.now.states ≡ length stamps.now) }
     requires rises { rising stamps.now ≡ true }
-    ensures { result ≡ once kind (timed kind stamps.now kind.no) w (at kind operand.now) i }
+    ensures { result ≡ once K.kind (timed K.kind stamps.now K.kind.no) w (at K.kind operand.now) i }
 {
     let start = past_start(stamps, i, w);
     let mut any = K::no();
@@ -198,7 +198,7 @@ pub(crate) fn at_once<K: Truth>(stamps: &[u64], operand: &Column<'_, K>, i: usiz
 pub(crate) fn at_sofar<K: Truth>(stamps: &[u64], operand: &Column<'_, K>, i: usize, w: Window) -> K
     requires within { (i < length stamps.now) × (operand.now.states ≡ length stamps.now) }
     requires rises { rising stamps.now ≡ true }
-    ensures { result ≡ sofar kind (timed kind stamps.now kind.no) w (at kind operand.now) i }
+    ensures { result ≡ sofar K.kind (timed K.kind stamps.now K.kind.no) w (at K.kind operand.now) i }
 {
     at_once(stamps, &negation(operand), i, w).not()
 }

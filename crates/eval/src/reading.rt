@@ -14,7 +14,7 @@ pub(crate) fn operand<K: Truth>(
 ) -> Column<'_, K>
     requires { (length values.now ≡ states * nodes) × (a < nodes) }
     ensures states { result.states ≡ states }
-    ensures value { at kind result ≡ value_at kind values.now nodes a }
+    ensures value { at K.kind result ≡ value_at K.kind values.now nodes a }
     ensures parts { (result.values.now ≡ values.now) × (result.nodes ≡ nodes) × (result.node ≡ a) × (result.negated ≡ false) }
 {
     Column {
@@ -29,7 +29,7 @@ pub(crate) fn operand<K: Truth>(
 /// The column with each value negated.
 pub(crate) fn negation<'a, K: Truth>(column: &Column<'a, K>) -> Column<'a, K>
     ensures states { result.states ≡ column.now.states }
-    ensures value { at kind result ≡ (λ i. kind.not (at kind column.now i)) }
+    ensures value { at K.kind result ≡ (λ i. K.kind.not (at K.kind column.now i)) }
 {
     Column {
         values: column.values,
@@ -43,7 +43,7 @@ pub(crate) fn negation<'a, K: Truth>(column: &Column<'a, K>) -> Column<'a, K>
 /// The column's value at state `i`.
 pub(crate) fn read<K: Truth>(column: &Column<'_, K>, i: usize) -> K
     requires { i < column.now.states }
-    ensures { result ≡ at kind column.now i }
+    ensures { result ≡ at K.kind column.now i }
 {
     let value = column.values[i * column.nodes + column.node];
     if column.negated { value.not() } else { value }
@@ -52,7 +52,7 @@ pub(crate) fn read<K: Truth>(column: &Column<'_, K>, i: usize) -> K
 /// The value of node `a` at state `i`.
 pub(crate) fn value_of<K: Truth>(values: &[K], states: usize, nodes: usize, a: usize, i: usize) -> K
     requires { (length values.now ≡ states * nodes) × ((a < nodes) × (i < states)) }
-    ensures { result ≡ value_at kind values.now nodes a i }
+    ensures { result ≡ value_at K.kind values.now nodes a i }
 {
     read(&operand(values, states, nodes, a), i)
 }

@@ -1,4 +1,4 @@
-use Rattle.std.proofs.Common.{◌≡◌, ◌-◌, length, ap, ◌∙◌, arith}
+use Rattle.std.proofs.Common.{◌-◌, length, ◌∙◌, arith}
 use Rattle.eval.specs.Stamps.{record_of}
 use Rattle.eval.proofs.Filling.{truths, kept_none, kept_columns, kept_truths, node_truth, filled_keeps, done_more, filled_more}
 use Rattle.eval.proofs.evaluator.fill_node.Goals as goal

@@ -1,4 +1,4 @@
-use Rattle.std.proofs.Common.{◌≡◌, ℕ, ◌/◌, ◌%◌, ◌^◌, ◌<◌, ◌≤◌, false, eqb, sym, ap, ◌∙◌, arith, pow_mono}
+use Rattle.std.proofs.Common.{◌≡◌, ℕ, ◌/◌, ◌%◌, ◌^◌, ◌<◌, ◌≤◌, false, eqb, sym, ap, arith, pow_mono}
 use native.Mathlib.Nat.{div-eq_of_lt}
 use Rattle.syntax.specs.Rows.{bit_of}
 use Rattle.eval.proofs.leaves.is_set.Goals as goal

@@ -1,4 +1,4 @@
-use Rattle.std.proofs.Common.{◌≡◌, ◌+◌, sym, subst, arith}
+use Rattle.std.proofs.Common.{◌+◌, sym, subst, arith}
 use Rattle.eval.specs.Columns.{at}
 use Rattle.eval.specs.Stamps.{timed}
 use Rattle.eval.proofs.Turns.{Back, past_start, past_turn, past_end, once_here, lasting}
