@@ -1,16 +1,15 @@
 -- The worked facts.
-use Rattle.std.proofs.Common.{◌≡◌, ℕ, zero, suc, ◌-◌, ◌<◌, ◌≤◌, Bool, true, false, cond, not, ◌||◌, ltb, leb, List, [], ◌∷◌, map, length, get_or, pos, sym, refl, ap, ◌∙◌, arith}
+use Rattle.std.proofs.Common.{◌≡◌, ℕ, zero, suc, ◌-◌, ◌<◌, Bool, true, false, cond, not, ◌||◌, ltb, List, [], ◌∷◌, length, pos, sym, refl, ap, ◌∙◌, arith}
 use Rattle.std.proofs.lemmas.Bool.{le-ltb}
 use Rattle.truth.specs.Kinds.{Kind}
 use Rattle.truth.specs.declared.Three.{Three}
 use Rattle.truth.specs.declared.Three.TheVariants.{True, False, Undecided}
 use Rattle.truth.specs.Kleene.{plain, three, embed, or3, not3}
 use Rattle.syntax.specs.declared.Window.{Window}
-use Rattle.store.specs.declared.facts.Fact.{Fact}
-use Rattle.store.specs.Facts.{fact_of, holds, of_relation, same, value_in}
+use Rattle.store.specs.Facts.{fact_of, holds, of_relation, value_in}
 use Rattle.eval.specs.Truth.{Record, any, count, stamp, closed, next}
-use Rattle.history.specs.Histories.{State, History, stamps, facts_at, running_record, ended_record, finished_record}
-use Rattle.history.specs.Worked.{Levels, Ends, Begins, Empties, WorkedFacts, Last, Unseen, window, next_true, allnext_true}
+use Rattle.history.specs.Histories.{State, stamps, facts_at, running_record, ended_record, finished_record}
+use Rattle.history.specs.Worked.{Levels, Ends, Begins, Empties, WorkedFacts, Last, window, next_true, allnext_true}
 
 levels : (key : ℕ) → Levels key
 unfolding value_in

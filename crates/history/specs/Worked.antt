@@ -9,7 +9,6 @@ use Rattle.syntax.specs.declared.Query.{Query}
 use Rattle.syntax.specs.declared.Query.TheVariants as query
 use Rattle.syntax.specs.declared.Node.{Node}
 use Rattle.syntax.specs.declared.Node.TheVariants as node
-use Rattle.store.specs.declared.facts.Fact.{Fact}
 use Rattle.store.specs.Facts.{fact_of, holds, of_relation}
 use Rattle.history.specs.Histories.{State, History, facts_at, true_in, running_verdict, final_verdict}
 
