@@ -1,5 +1,5 @@
 -- The judge's answers from the values of all nodes.
-use Rattle.std.proofs.Common.{◌≡◌, ℕ, ◌+◌, ◌*◌, ◌<◌, ◌≤◌, Bool, true, false, cond, eqb, ltb, List, ◌++◌, length, get_or, is_some, is_ok, Some, Ok, Err, vec_items, vec_len, Result, unwrap_or, sym, refl, ap, ◌∙◌, subst, arith}
+use Rattle.std.proofs.Common.{◌≡◌, ℕ, ◌+◌, ◌*◌, ◌<◌, Bool, true, false, cond, List, ◌++◌, length, get_or, is_some, is_ok, Some, Ok, vec_items, vec_len, Result, unwrap_or, sym, ap, ◌∙◌}
 use Rattle.std.proofs.lemmas.Bool.{eq-eqb, lt-ltb}
 use Rattle.truth.specs.Kleene.{plain}
 use Rattle.syntax.specs.Nodes.{root_of, formula_at}

@@ -1,5 +1,6 @@
 //! The judge of finished records, which are given by stamps and rows of answers.
 #![tactic(auto)]
+
 pub mod judge;
 pub mod judged;
 pub mod refusal;
