@@ -1,11 +1,9 @@
 -- The session holds what its book says, whatever was called.
-use Rattle.std.proofs.Common.{◌≡◌, ℕ, zero, suc, ◌-◌, ◌<◌, ◌≤◌, Bool, true, false, cond, not, ltb, ◌⊎◌, List, [], ◌∷◌, ◌++◌, map, length, get_or, Some, None, Ok, Err, Option, Result, sym, refl, ap, ◌∙◌, subst, ⊎_elim, arith, length-append}
-use Rattle.std.proofs.lemmas.Bool.{both_ways, cases_lt, cases_eq, ltb-true}
+use Rattle.std.proofs.Common.{◌≡◌, ℕ, zero, suc, ◌<◌, Bool, true, false, cond, List, [], ◌∷◌, ◌++◌, map, length, Some, None, Ok, Err, Option, Result, sym, refl, ap, ◌∙◌, subst, arith}
+use Rattle.std.proofs.lemmas.Bool.{both_ways}
 use Rattle.std.proofs.lemmas.Bool.Decides.{nat_tests}
 use Rattle.store.specs.declared.facts.Fact.{Fact}
 use Rattle.session.specs.declared.slip.Slip.{Slip}
-use Rattle.session.specs.declared.slip.CommitRefused.{CommitRefused}
-use Rattle.session.specs.declared.fault.SessionFault.{SessionFault}
 use Rattle.store.specs.declared.stores.StoreFault.{StoreFault}
 use Rattle.session.specs.declared.alterations.Alteration.{Alteration}
 use Rattle.session.specs.declared.alterations.Alteration.TheVariants.{Added, Removed}
@@ -13,9 +11,7 @@ use Rattle.store.specs.Facts.{holds, with_fact, without_fact}
 use Rattle.store.specs.Stores.{Meaning, Lawful, put_answer, after_put, after_drop}
 use Rattle.session.specs.View as view
 use Rattle.session.specs.View.{View, Event, Did, undone, replay, put_reply, put_left, drop_reply, drop_left, commit_reply, commit_left, begin_reply, begin_left}
-use Rattle.std.specs.List.{slice_get}
-use Rattle.std.proofs.lemmas.List.{get_or_append_left, get_or_push, map-append}
-use Rattle.std.proofs.lemmas.Option.{slice_get-get_or}
+use Rattle.std.proofs.lemmas.List.{map-append}
 use Rattle.syntax.specs.declared.Node.{Node}
 use Rattle.rules.specs.declared.table.Table.{Table}
 use Rattle.rules.specs.Tables.{nodes_of}

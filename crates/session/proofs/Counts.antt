@@ -1,5 +1,5 @@
 -- The alterations of the open change are as many as its calls say.
-use Rattle.std.proofs.Common.{◌≡◌, ℕ, ◌+◌, Bool, true, false, List, [], ◌∷◌, ◌++◌, length, Some, None, Ok, Err, sym, refl, ap, ◌∙◌, length-append}
+use Rattle.std.proofs.Common.{◌≡◌, ℕ, ◌+◌, true, false, List, [], ◌∷◌, ◌++◌, length, Some, None, Ok, Err, sym, refl, ap, ◌∙◌, length-append}
 use Rattle.std.proofs.lemmas.Bool.{both_ways}
 use Rattle.session.specs.declared.alterations.Alteration.{Alteration}
 use Rattle.session.specs.View as view

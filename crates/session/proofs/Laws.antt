@@ -1,13 +1,12 @@
 -- The promises of a verdict.
-use Rattle.std.proofs.Common.{◌≡◌, ℕ, zero, suc, ◌+◌, ◌-◌, ◌<◌, ◌≤◌, Bool, true, false, cond, ◌⊎◌, List, [], ◌∷◌, ◌++◌, map, length, get_or, Some, None, Ok, Err, Option, Result, sym, refl, ap, ◌∙◌, subst, ⊎_elim, append_assoc, append-nil, arith, length-append}
+use Rattle.std.proofs.Common.{◌≡◌, ℕ, zero, suc, ◌+◌, ◌-◌, ◌<◌, ◌≤◌, Bool, true, false, List, [], ◌∷◌, ◌++◌, map, length, get_or, Some, None, Ok, Err, Option, sym, refl, ap, ◌∙◌, subst, ⊎_elim, append_assoc, append-nil, arith, length-append}
 use Rattle.std.proofs.lemmas.Bool.{both_ways, cases_Bool, cond-true, cond-false, lt-ltb}
 use Rattle.std.proofs.lemmas.List.{length-map}
 use Rattle.truth.specs.declared.Three.{Three}
-use Rattle.truth.specs.declared.Three.TheVariants.{True, False, Undecided}
 use Rattle.truth.specs.Kleene.{three, embed, Definite}
 use Rattle.syntax.specs.declared.Node.{Node}
 use Rattle.syntax.specs.declared.Node.TheVariants as node
-use Rattle.syntax.specs.Formula.{Formula, reach}
+use Rattle.syntax.specs.Formula.{Formula}
 use Rattle.rules.specs.declared.table.Table.{Table}
 use Rattle.rules.specs.Tables.{nodes_of}
 use Rattle.query.specs.Queries.{node_answer}
@@ -19,12 +18,12 @@ use Rattle.eval.specs.Rows.{truth_of}
 use Rattle.eval.proofs.Theorems.{Begins, Equal, Embeds, DefiniteLeaves}
 use Rattle.eval.proofs.Growing.{persistence, agreement, soundness, finished_definite, embed_same}
 use Rattle.eval.proofs.Decided.{decidedness}
-use Rattle.history.specs.Histories.{State, History, stamps, Rises, facts_at, finished_record, true_in}
+use Rattle.history.specs.Histories.{State, stamps, Rises, facts_at, finished_record, true_in}
 use Rattle.session.specs.Values.{record_of}
 use Rattle.session.specs.View as view
 use Rattle.session.specs.View.{View, Event, asked, Did, rule_of, verdict_of, verdict_on, verdict_reply}
 use Rattle.session.specs.Book.{Book, feed, fed, new_book, Run, rest, then, Past, book_of, Pasts}
-use Rattle.session.specs.Law.{Continues, stamp_at, last_stamp, Promise, Law}
+use Rattle.session.specs.Law.{Continues, stamp_at, Law}
 use Rattle.session.proofs.Books.{Agrees, Tied, rows_of, tied, begin_running, commit_open}
 
 -- ---- the record of the committed states

@@ -1,5 +1,5 @@
 -- Why a call is refused: of the refusals that fit, the one with the smallest number is answered.
-use Rattle.std.specs.Prelude.{Bool, true, cond, List, [], ◌∷◌, Some, None, Ok, Err, Option, Result, nat_le}
+use Rattle.std.specs.Prelude.{Bool, cond, List, [], ◌∷◌, Some, None, Ok, Err, Option, Result, nat_le}
 use Rattle.session.specs.declared.fault.SessionFault.{SessionFault}
 use Rattle.session.specs.Faults.{fault_number}
 

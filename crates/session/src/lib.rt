@@ -1,5 +1,6 @@
 //! A session: changes to a store by slips, and the verdicts of a table's rules at the committed states.
 #![tactic(auto)]
+
 mod alterations;
 mod changes;
 mod fault;

@@ -1,4 +1,4 @@
-use Rattle.std.proofs.Common.{◌≡◌, ℕ, ◌*◌, List, length, sym, ap, ◌∙◌}
+use Rattle.std.proofs.Common.{ℕ, ◌*◌, List, length, sym, ap, ◌∙◌}
 use Rattle.eval.specs.Stamps.{rising}
 use Rattle.rules.specs.Tables.{nodes_of}
 use Rattle.session.proofs.Places.{how_many}

@@ -1,4 +1,4 @@
-use Rattle.std.proofs.Common.{◌≡◌, ◌+◌, ◌≤◌, true, length, vec_items, vec_len, ap, ◌∙◌, arith, length-append, rules}
+use Rattle.std.proofs.Common.{◌≡◌, ◌≤◌, true, length, vec_items, ap, ◌∙◌, arith, length-append, rules}
 use Rattle.eval.specs.Stamps.{rising}
 use Rattle.rules.specs.Tables.{nodes_of}
 use Rattle.session.proofs.Places.{how_many, more_room, one_more}
