@@ -1,6 +1,7 @@
 //! Compares the evaluator with a second one, written another way, on random tables and records.
 //! It prints what it compared, and ends with status 1 if anything differed.
 #![tactic(auto)]
+
 mod chance;
 mod compare;
 mod facts;
