@@ -3,6 +3,7 @@
 //! Relation 0 has the variance of a block, 1 the charge of the battery, 2 the height, 3 the lines that are planned,
 //! 4 the lines that are flown, 5 the pilot's mark that a line is on.
 #![tactic(auto)]
+
 use anyhow::anyhow;
 use liststore::ListStore;
 use rules::table::Table;
