@@ -1,5 +1,5 @@
 -- What is written follows what the parts answer.
-use Rattle.std.proofs.Common.{◌≡◌, ℕ, Bool, true, false, List, [], ◌∷◌, length, IfOk, Ok, Err, Result, sym, refl, ap, ◌∙◌, subst, arith}
+use Rattle.std.proofs.Common.{◌≡◌, ℕ, List, [], ◌∷◌, length, IfOk, Ok, Err, Result, sym, refl, ap, ◌∙◌, arith}
 use Rattle.rules.specs.declared.refusal.JudgeFault.{JudgeFault}
 use Rattle.rules.specs.declared.table.Table.{Table}
 use Rattle.rules.specs.Refusals.{judge_number}

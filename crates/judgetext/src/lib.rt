@@ -1,3 +1,4 @@
 //! The judge's whole job on text.
 #![tactic(auto)]
+
 pub mod text;

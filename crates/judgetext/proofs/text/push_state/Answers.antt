@@ -1,4 +1,4 @@
-use Rattle.std.proofs.Common.{◌≡◌, true, ◌++◌, get_or, is_some, string_bytes, sym, refl, ap, ◌∙◌, subst}
+use Rattle.std.proofs.Common.{◌≡◌, true, ◌++◌, get_or, is_some, string_bytes, refl, ap, ◌∙◌, subst}
 use Rattle.std.proofs.lemmas.Slice.{pushed}
 use Rattle.syntax.specs.declared.Rule.{Rule}
 use Rattle.syntax.specs.Nodes.{root_of}

@@ -1,4 +1,4 @@
-use Rattle.std.proofs.Common.{◌≡◌, vec_items, string_bytes, ◌∙◌, ap₂, inl, inr}
+use Rattle.std.proofs.Common.{vec_items, ◌∙◌, ap₂, inl}
 use Rattle.judgetext.specs.Outputs.{verdicts}
 use Rattle.judgetext.proofs.Answering.{made_so}
 use Rattle.judgetext.proofs.text.record_text.Goals as goal
