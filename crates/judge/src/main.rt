@@ -1,5 +1,6 @@
 //! Judges the record on standard input by the rules in the file `rules`.
 #![tactic(auto)]
+
 use judgetext::text::output;
 use std::fs;
 use std::io::{Read, Write};
