@@ -1,6 +1,7 @@
 //! Holds the session to a second one, written the plainest way, on chosen and on random calls over both stores, and prints
 //! what was compared.
 #![tactic(auto)]
+
 mod cases;
 mod model;
 mod plain;
