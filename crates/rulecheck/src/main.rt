@@ -1,8 +1,9 @@
 //! Checks a rule file, from the path that is given or from standard input, and prints its rules or its first fault.
 #![tactic(auto)]
-use anyhow::anyhow;
+
 use report::report::report;
 use std::io::{Read, Write};
+use std::process::ExitCode;
 use std::{env, fs};
 
 fn input(rt: &HostRuntime) -> anyhow::Result<Vec<u8>> {
@@ -24,9 +25,11 @@ fn run(rt: &HostRuntime) -> anyhow::Result<bool> {
     Ok(report.accepted)
 }
 
-fn main(rt: HostRuntime) -> anyhow::Result<()> {
+/// Ends with status 1 for a faulty file.
+fn main(rt: HostRuntime) -> anyhow::Result<ExitCode> {
     if run(&rt)? {
-        return Ok(());
+        Ok(ExitCode::SUCCESS)
+    } else {
+        Ok(ExitCode::FAILURE)
     }
-    Err(anyhow!("faulty rule file"))
 }

@@ -7,5 +7,5 @@ mod nodes;
 mod parts;
 mod place;
 pub mod rule;
-mod rules;
+mod rule_lines;
 pub mod write;

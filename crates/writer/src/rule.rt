@@ -5,7 +5,7 @@ ghost use Rattle.grammar.specs.Entries.{entry_of};
 ghost use Rattle.grammar.specs.TableText.{rule_text, texts};
 ghost use Rattle.writer.specs.Writing.{rule_texts};
 
-use crate::rules::put_rule;
+use crate::rule_lines::put_rule;
 use rules::table::Table;
 use std::alloc::{AllocError, Global};
 use syntax::{Node, Rule};

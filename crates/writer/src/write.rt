@@ -4,7 +4,7 @@ ghost use Rattle.rules.specs.Tables.{text_of};
 ghost use Rattle.writer.specs.Writing.{answer, left, ReadAgain};
 
 use crate::fault::WriteFault;
-use crate::rules::put_rules;
+use crate::rule_lines::put_rules;
 use rules::table::Table;
 
 /// Puts the table's text at the front of the buffer and answers its length. A buffer without room for it stays as it was.

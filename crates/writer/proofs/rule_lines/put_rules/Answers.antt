@@ -2,7 +2,7 @@ use Rattle.std.proofs.Common.{[], map, length}
 use Rattle.grammar.specs.Entries.{entry_of}
 use Rattle.grammar.specs.TableText.{texts}
 use Rattle.writer.proofs.RuleTexts.{root_at, none_puts, more_puts, all_puts}
-use Rattle.writer.proofs.rules.put_rules.Goals as goal
+use Rattle.writer.proofs.rule_lines.put_rules.Goals as goal
 
 pub loop-rule-init : goal.loop-rule-init
 loop-rule-init c = none_puts (texts [] (map entry_of c.args.nodes.now)) c.args.rules.now c.args.out.now
