@@ -9,3 +9,4 @@ pub mod Stamps
 pub mod Related
 pub mod Growing
 pub mod Decided
+pub mod Records

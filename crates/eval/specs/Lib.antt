@@ -3,4 +3,6 @@ pub mod Stamps
 pub mod Rows
 pub mod Columns
 pub mod Steps
+pub mod Standing
 pub mod Values
+pub mod Growing

@@ -1,10 +1,13 @@
 //! The values of every node of a table at every state of a record.
-ghost use Rattle.std.specs.Prelude.{◌≡◌, ℕ, ◌+◌, ◌*◌, ◌<◌, ◌≤◌, true, length, is_ok, if◌then◌else◌, ◌==◌, slice_set};
+ghost use Rattle.std.specs.Prelude.{◌≡◌, ℕ, ◌+◌, ◌*◌, ◌<◌, ◌≤◌, true, length, is_ok, if◌then◌else◌, ◌==◌, slice_index_or, slice_set};
 ghost use Rattle.rules.specs.Tables.{nodes_of};
-ghost use Rattle.syntax.specs.Nodes.{place, Ordered};
+ghost use Rattle.syntax.specs.Nodes.{place, formula_at, Ordered};
+ghost use Rattle.syntax.specs.declared.Node.TheVariants.{True};
 ghost use Rattle.eval.specs.Columns.{value_at};
 ghost use Rattle.eval.specs.Stamps.{rising, record_of};
+ghost use Rattle.eval.specs.Standing.{Right};
 ghost use Rattle.eval.specs.Steps.{node_value, kept_of, Filled};
+ghost use Rattle.eval.specs.Truth.{value};
 ghost use Rattle.eval.specs.Values.{all_values, fit};
 
 use crate::leaves::Leaves;
@@ -13,6 +16,7 @@ use crate::operators::{
     at_allnext, at_always, at_next, at_once, at_previous, at_since, at_sofar, at_sometime, at_until,
 };
 use crate::reading::{operand, value_of};
+use crate::standing::{Anew, Standing};
 use crate::windows::are_rising;
 use rules::table::Table;
 use syntax::Node;
@@ -97,7 +101,91 @@ fn write<K: Truth>(values: &mut [K], states: usize, nodes: usize, m: usize, i: u
     values[i * nodes + m] = value;
 }
 
+/// Puts the value of node `m` at state `i` into its place, unless what is there stands.
+/// `kept` is, for an until, its first operand at every state from `i` on.
+fn settle<K: Truth, L: Leaves<K>, S: Standing<K>>(
+    nodes: &[Node],
+    m: usize,
+    stamps: &[u64],
+    leaves: &L,
+    pending: K,
+    standing: &S,
+    values: &mut [K],
+    kept: K,
+    i: usize,
+)
+    requires within { (m < length nodes.now) × ((i < length stamps.now) × (length values.old ≡ length stamps.now * length nodes.now)) }
+    requires rises { rising stamps.now ≡ true }
+    requires ordered { Ordered nodes.now }
+    requires filled { Filled K.kind (record_of stamps.now (L.leaf leaves.now) pending) nodes.now values.old m }
+    requires right { Right K.kind (record_of stamps.now (L.leaf leaves.now) pending) nodes.now values.old (S.stays standing.now) }
+    requires keeps { kept ≡ kept_of K.kind (value_at K.kind values.old (length nodes.now)) (length stamps.now) i (slice_index_or nodes.now m True) }
+    ensures { values.new ≡ slice_set values.old (i * length nodes.now + m) (value K.kind (record_of stamps.now (L.leaf leaves.now) pending) (formula_at nodes.now m) i) }
+{
+    if standing.stands(i, value_of(values, stamps.len(), nodes.len(), m, i)) {
+        return;
+    }
+    let value = node_at(
+        nodes[m],
+        m,
+        nodes.len(),
+        stamps,
+        leaves,
+        pending,
+        values,
+        kept,
+        i,
+    );
+    write(values, stamps.len(), nodes.len(), m, i, value);
+}
+
 /// Puts the values of node `m` at every state into their places, from the last state to the first.
+fn settle_node<K: Truth, L: Leaves<K>, S: Standing<K>>(
+    nodes: &[Node],
+    m: usize,
+    stamps: &[u64],
+    leaves: &L,
+    pending: K,
+    standing: &S,
+    values: &mut [K],
+)
+    requires within { (m < length nodes.now) × (length values.old ≡ length stamps.now * length nodes.now) }
+    requires rises { rising stamps.now ≡ true }
+    requires ordered { Ordered nodes.now }
+    requires filled { Filled K.kind (record_of stamps.now (L.leaf leaves.now) pending) nodes.now values.old m }
+    requires right { Right K.kind (record_of stamps.now (L.leaf leaves.now) pending) nodes.now values.old (S.stays standing.now) }
+    ensures filled { Filled K.kind (record_of stamps.now (L.leaf leaves.now) pending) nodes.now values.new (m + 1) }
+    ensures right { Right K.kind (record_of stamps.now (L.leaf leaves.now) pending) nodes.now values.new (S.stays standing.now) }
+{
+    let mut held = K::yes();
+    for i in (0..stamps.len()).rev() {
+        held = kept_at(nodes[m], nodes.len(), stamps.len(), values, i, held);
+        settle(nodes, m, stamps, leaves, pending, standing, values, held, i);
+    }
+}
+
+/// Puts the values of every node at every state into their places, but for those that stand.
+/// Cost: a look at each value, and for each that does not stand the states of its window.
+pub(crate) fn settle_all<K: Truth, L: Leaves<K>, S: Standing<K>>(
+    nodes: &[Node],
+    stamps: &[u64],
+    leaves: &L,
+    pending: K,
+    standing: &S,
+    values: &mut [K],
+)
+    requires within { length values.old ≡ length stamps.now * length nodes.now }
+    requires rises { rising stamps.now ≡ true }
+    requires ordered { Ordered nodes.now }
+    requires right { Right K.kind (record_of stamps.now (L.leaf leaves.now) pending) nodes.now values.old (S.stays standing.now) }
+    ensures { values.new ≡ all_values K.kind (record_of stamps.now (L.leaf leaves.now) pending) nodes.now }
+{
+    for m in 0..nodes.len() {
+        settle_node(nodes, m, stamps, leaves, pending, standing, values);
+    }
+}
+
+/// Puts the values of node `m` at every state into their places.
 fn fill_node<K: Truth, L: Leaves<K>>(
     nodes: &[Node],
     m: usize,
@@ -112,23 +200,7 @@ fn fill_node<K: Truth, L: Leaves<K>>(
     requires filled { Filled K.kind (record_of stamps.now (L.leaf leaves.now) pending) nodes.now values.old m }
     ensures { Filled K.kind (record_of stamps.now (L.leaf leaves.now) pending) nodes.now values.new (m + 1) }
 {
-    let node = nodes[m];
-    let mut held = K::yes();
-    for i in (0..stamps.len()).rev() {
-        held = kept_at(node, nodes.len(), stamps.len(), values, i, held);
-        let value = node_at(
-            node,
-            m,
-            nodes.len(),
-            stamps,
-            leaves,
-            pending,
-            values,
-            held,
-            i,
-        );
-        write(values, stamps.len(), nodes.len(), m, i, value);
-    }
+    settle_node(nodes, m, stamps, leaves, pending, &Anew, values);
 }
 
 /// Puts the values of every node at every state into their places.

@@ -2,9 +2,12 @@
 #![tactic(auto)]
 
 mod column;
+pub mod evaluated;
 pub mod evaluator;
 pub mod leaves;
 pub mod misfit;
 mod operators;
 mod reading;
+pub mod room;
+mod standing;
 pub mod windows;

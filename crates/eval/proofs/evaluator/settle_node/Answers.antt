@@ -1,0 +1,42 @@
+use Rattle.std.proofs.Common.{◌-◌, length, ◌∙◌, arith}
+use Rattle.eval.specs.Stamps.{record_of}
+use Rattle.eval.proofs.Filling.{truths, kept_none, kept_columns, kept_truths, filled_keeps, done_more, right_keeps, filled_more}
+use Rattle.eval.proofs.evaluator.settle_node.Goals as goal
+
+pub loop-i-init : goal.loop-i-init
+loop-i-init g c = (
+  c.requires.within.1,
+  c.requires.filled,
+  (λ j le lj. absurd (omega arith)),
+  c.requires.right,
+  c.yes-held.ensures ∙ kept_none g.met.K.Truth.laws (truths g.K.Truth.kind (record_of c.args.stamps.now (g.L.Leaves.leaf c.args.leaves.now) c.args.pending) c.args.nodes.now c.args.m) (length c.args.stamps.now) _,
+)
+
+pub kept_at-held-requires : goal.kept_at-held-requires
+kept_at-held-requires g c =
+    record {
+      within = (omega arith, (c.loop-i.invariant.0, omega (arith, c.requires.ordered c.args.m c.requires.within.0)));
+      keeps = kept_columns g.K.Truth.kind (record_of c.args.stamps.now (g.L.Leaves.leaf c.args.leaves.now) c.args.pending) c.args.nodes.now c.args.m c.requires.within.0 c.requires.ordered c.loop-i.values c.loop-i.invariant.1 c.loop-i.i _ (omega arith) c.loop-i.invariant.4;
+    }
+
+pub loop-i-preserved : goal.loop-i-preserved
+loop-i-preserved g c =
+    let k = g.K.Truth.kind in
+    let r = record_of c.args.stamps.now (g.L.Leaves.leaf c.args.leaves.now) c.args.pending in
+    let nodes = c.args.nodes.now in
+    let m = c.args.m in
+    let old = c.loop-i.values in
+    let i = c.loop-i.i - 1 in
+    let new = c.settle.new.values in (
+      omega (arith, c.loop-i.invariant.0),
+      filled_keeps k r nodes m c.requires.within.0 c.requires.ordered old c.loop-i.invariant.1 c.loop-i.invariant.0 i (omega arith) new c.settle.ensures,
+      done_more k r nodes m c.requires.within.0 c.requires.ordered old c.loop-i.invariant.1 c.loop-i.invariant.0 i (omega arith) new c.settle.ensures c.loop-i.i (omega arith) c.loop-i.invariant.2,
+      right_keeps k r nodes m c.requires.within.0 c.requires.ordered old c.loop-i.invariant.1 c.loop-i.invariant.0 i (omega arith) new c.settle.ensures (g.S.Standing.stays c.args.standing.now) c.loop-i.invariant.3,
+      kept_truths k r nodes m c.requires.within.0 c.requires.ordered old c.loop-i.invariant.1 i c.kept_at-held.ensures,
+    )
+
+pub returns : goal.returns
+returns g c = record {
+  filled = filled_more g.K.Truth.kind (record_of c.args.stamps.now (g.L.Leaves.leaf c.args.leaves.now) c.args.pending) c.args.nodes.now c.args.m c.loop-i.values c.loop-i.i (omega arith) c.loop-i.invariant.1 c.loop-i.invariant.2;
+  right = c.loop-i.invariant.3;
+}

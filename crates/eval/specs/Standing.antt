@@ -1,0 +1,24 @@
+-- Values that stand in their places from before.
+use Rattle.std.specs.Prelude.{◌≡◌, ℕ, ◌<◌, Bool, true, false, ◌&&◌, List, length, nat_lt}
+use Rattle.truth.specs.Kinds.{Kind}
+use Rattle.truth.specs.declared.Three.{Three}
+use Rattle.truth.specs.declared.Three.TheVariants.{True, False, Undecided}
+use Rattle.syntax.specs.declared.Node.{Node}
+use Rattle.syntax.specs.Nodes.{formula_at}
+use Rattle.eval.specs.Columns.{value_at}
+use Rattle.eval.specs.Truth.{Record, count, value}
+
+abbrev pub decided : Three → Bool
+decided True = true
+decided False = true
+decided Undecided = false
+
+-- true and false stand at the first n states
+abbrev pub stays_decided : ℕ → ℕ → Three → Bool
+stays_decided n i x = nat_lt i n && decided x
+
+-- each value that stands, as `stays` tells, is that of its node's formula
+abbrev pub Right : {K : Type 0} → Kind K → Record K → List Node → List K → (ℕ → K → Bool) → Type 0
+Right k r nodes values stays =
+    (a i : ℕ) → a < length nodes → i < count r → stays i (value_at k values (length nodes) a i) ≡ true
+    → value_at k values (length nodes) a i ≡ value k r (formula_at nodes a) i

@@ -1,0 +1,229 @@
+//! A record that grows state by state, with the value of every node of a table at every state.
+//!
+//! True and false stay as the record grows and when it is finished, so only what is undecided is worked out again.
+ghost use Rattle.std.specs.Prelude.{◌≡◌, ℕ, ◌+◌, ◌*◌, ◌<◌, ◌≤◌, true, false, [], ◌∷◌, ◌++◌, length, is_ok, if◌then◌else◌, vec_len, vec_capacity, slice_index_or};
+ghost use Rattle.truth.specs.Kleene.{three};
+ghost use Rattle.truth.specs.declared.Three.{Three as Value};
+ghost use Rattle.truth.specs.declared.Three.TheVariants.{False, Undecided};
+ghost use Rattle.rules.specs.Tables.{nodes_of};
+ghost use Rattle.eval.specs.Growing.{latest, later_than, growing_record, state_fit, value_in};
+ghost use Rattle.eval.specs.Standing.{Right, stays_decided};
+ghost use Rattle.eval.specs.Stamps.{rising};
+ghost use Rattle.eval.specs.Values.{all_values};
+
+use crate::evaluator::settle_all;
+use crate::leaves::Rows;
+use crate::misfit::Misfit;
+use crate::room::RecordRoom;
+use crate::standing::Decided;
+use rules::table::Table;
+use truth::Three;
+
+/// At most 512 states: the stamp of each, the row of the queries' answers there, and the value of every node,
+/// which is what the definitions give for the stamps and rows.
+#[derive(Drop)]
+pub struct EvaluatedRecord<'t> {
+    pub(crate) table: &'t Table,
+    pub(crate) stamps: Vec<u64>,
+    pub(crate) rows: Vec<u64>,
+    pub(crate) values: Vec<Three>,
+    pub(crate) finished: bool,
+    ghost few: { vec_len stamps ≤ 512 },
+    ghost risen: { rising stamps.items ≡ true },
+    ghost paired: { vec_len rows ≡ vec_len stamps },
+    ghost for_stamps: { 512 ≤ vec_capacity stamps },
+    ghost for_rows: { 512 ≤ vec_capacity rows },
+    ghost for_values: { 32768 ≤ vec_capacity values },
+    ghost evaluated: { values.items ≡ all_values three (growing_record stamps.items rows.items finished) (nodes_of table.now) },
+}
+
+impl<'t> EvaluatedRecord<'t> {
+    /// A record without states, to which states may come. Cost: constant.
+    pub fn new(table: &'t Table, room: RecordRoom) -> Self
+        ensures table { result.table.now ≡ table.now }
+        ensures stamps { result.stamps.items ≡ [] }
+        ensures rows { result.rows.items ≡ [] }
+        ensures finished { result.finished ≡ false }
+    {
+        let RecordRoom {
+            stamps,
+            rows,
+            values,
+        } = room;
+        EvaluatedRecord {
+            table,
+            stamps,
+            rows,
+            values,
+            finished: false,
+        }
+    }
+
+    /// The table whose nodes have the values. Cost: constant.
+    pub fn table(&self) -> &'t Table
+        ensures { result.now ≡ self.now.table.now }
+    {
+        self.table
+    }
+
+    /// Whether the record is finished. Cost: constant.
+    pub fn is_finished(&self) -> bool
+        ensures { result ≡ self.now.finished }
+    {
+        self.finished
+    }
+
+    /// How many states there are. Cost: constant.
+    pub fn len(&self) -> usize
+        ensures { result ≡ length self.now.stamps.items }
+    {
+        self.stamps.len()
+    }
+
+    /// The stamp of the latest state. Cost: constant.
+    pub fn last_stamp(&self) -> Option<u64>
+        ensures { result ≡ latest self.now.stamps.items }
+    {
+        let count = self.stamps.len();
+        if count == 0 {
+            return None;
+        }
+        Some(self.stamps[count - 1])
+    }
+
+    /// The value of a node at a state, if there are such. Cost: a look-up.
+    pub fn value_at(&self, node: usize, state: usize) -> Option<Three>
+        ensures { result ≡ value_in (nodes_of self.now.table.now) self.now.stamps.items (growing_record self.now.stamps.items self.now.rows.items self.now.finished) node state }
+    {
+        let nodes = self.table.nodes().len();
+        if node < nodes && state < self.stamps.len() {
+            Some(self.values[state * nodes + node])
+        } else {
+            None
+        }
+    }
+
+    /// One more state, with its row; refused with no room for it, or a stamp that is not later than the last, and the
+    /// record is then as it was.
+    /// Cost: a look at the value of each node at each state, and the window of each that is undecided; no allocation.
+    pub fn push(&mut self, stamp: u64, row: u64) -> Result<(), Misfit>
+        ensures answer { result ≡ state_fit self.old.stamps.items stamp }
+        ensures table { self.new.table.now ≡ self.old.table.now }
+        ensures stamps { self.new.stamps.items ≡ (if is_ok result then self.old.stamps.items ++ (stamp ∷ []) else self.old.stamps.items) }
+        ensures rows { self.new.rows.items ≡ (if is_ok result then self.old.rows.items ++ (row ∷ []) else self.old.rows.items) }
+        ensures finished { self.new.finished ≡ self.old.finished }
+    {
+        self.admits(stamp)?;
+        self.take(stamp, row);
+        Ok(())
+    }
+
+    // Whether a state can come at the stamp.
+    fn admits(&self, stamp: u64) -> Result<(), Misfit>
+        ensures { result ≡ state_fit self.now.stamps.items stamp }
+    {
+        if self.stamps.len() >= 512 {
+            return Err(Misfit::Room);
+        }
+        match self.last_stamp() {
+            Some(last) if stamp <= last => Err(Misfit::Stamps),
+            _ => Ok(()),
+        }
+    }
+
+    fn take(&mut self, stamp: u64, row: u64)
+        requires few { length self.old.stamps.items < 512 }
+        requires later { later_than (latest self.old.stamps.items) stamp ≡ true }
+        ensures table { self.new.table.now ≡ self.old.table.now }
+        ensures stamps { self.new.stamps.items ≡ self.old.stamps.items ++ (stamp ∷ []) }
+        ensures rows { self.new.rows.items ≡ self.old.rows.items ++ (row ∷ []) }
+        ensures finished { self.new.finished ≡ self.old.finished }
+    {
+        let standing = self.standing();
+        self.stamps.push_reserved(stamp);
+        self.rows.push_reserved(row);
+        widen(&mut self.values, self.table.nodes().len());
+        evaluate_rest(
+            self.table,
+            self.stamps.as_slice(),
+            self.rows.as_slice(),
+            self.finished,
+            standing,
+            &mut self.values,
+        );
+    }
+
+    /// No state is to come any more. Cost: that of a push.
+    pub fn finish(&mut self)
+        ensures table { self.new.table.now ≡ self.old.table.now }
+        ensures stamps { self.new.stamps.items ≡ self.old.stamps.items }
+        ensures rows { self.new.rows.items ≡ self.old.rows.items }
+        ensures finished { self.new.finished ≡ true }
+    {
+        let standing = self.standing();
+        self.finished = true;
+        evaluate_rest(
+            self.table,
+            self.stamps.as_slice(),
+            self.rows.as_slice(),
+            true,
+            standing,
+            &mut self.values,
+        );
+    }
+
+    // Which values stand when the record goes on: while it runs those that are decided, and once it is finished none.
+    fn standing(&self) -> Decided
+        ensures { result.states ≡ (if self.now.finished then 0 else length self.now.stamps.items) }
+    {
+        let states = if self.finished { 0 } else { self.stamps.len() };
+        Decided { states }
+    }
+}
+
+// That many more values, which are worked out next.
+fn widen(values: &mut Vec<Three>, count: usize)
+    requires { (count ≤ 64) × (vec_len values.old + count ≤ vec_capacity values.old) }
+    ensures len { vec_len values.new ≡ vec_len values.old + count }
+    ensures capacity { vec_capacity values.old ≤ vec_capacity values.new }
+    ensures old { (k : ℕ) (d : Value) → k < vec_len values.old → slice_index_or values.new.items k d ≡ slice_index_or values.old.items k d }
+{
+    // The memory was reserved, so this is not refused.
+    let _ = values.extend_from_slice(&[Three::Undecided; 64][0..count]);
+}
+
+// The values of every node at every state, but for those that stand.
+fn evaluate_rest(
+    table: &Table,
+    stamps: &[u64],
+    rows: &[u64],
+    finished: bool,
+    standing: Decided,
+    values: &mut Vec<Three>,
+)
+    requires risen { rising stamps.now ≡ true }
+    requires full { vec_len values.old ≡ length stamps.now * length (nodes_of table.now) }
+    requires right { Right three (growing_record stamps.now rows.now finished) (nodes_of table.now) values.old.items (stays_decided standing.states) }
+    ensures values { values.new.items ≡ all_values three (growing_record stamps.now rows.now finished) (nodes_of table.now) }
+    ensures capacity { vec_capacity values.new ≡ vec_capacity values.old }
+{
+    settle_all(
+        table.nodes(),
+        stamps,
+        &Rows { rows },
+        pending(finished),
+        &standing,
+        values.as_mut_slice(),
+    );
+}
+
+// What is left open while states may still come.
+fn pending(finished: bool) -> Three
+    ensures { result ≡ (if finished then False else Undecided) }
+{
+    if finished {
+        Three::False
+    } else {
+        Three::Undecided
+    }
+}
