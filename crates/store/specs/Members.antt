@@ -36,7 +36,7 @@ PutDid f m n (Err NotTaken) = (m.takes f ≡ false) × (n.facts ≡ m.facts)
 PutDid f m n (Err Full) =
     (m.takes f ≡ true) × (f ∈ m.facts → ⊥) × (length m.facts ≡ m.room) × (n.facts ≡ m.facts)
 
--- the cases of Put-did exclude each other, so they also say when each answer comes
+-- the cases of PutDid exclude each other, so they also say when each answer comes
 pub record PutResult (f : Fact) (m n : Meaning) (r : Result Bool StoreFault) : Type 0 where
   pub did : PutDid f m n r
   pub same_store : SameStore m n

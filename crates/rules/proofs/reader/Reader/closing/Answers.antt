@@ -26,5 +26,5 @@ pub returns : goal.returns
 returns c =
     let after = c.close.new.self in
     let nodes = ap (map entry_of) c.push_reserved.ensures.items ∙ map-append entry_of (vec_items after.nodes) (c.args.node ∷ []) in
-    let count : c.len-number.result ≡ length (map entry_of (vec_items after.nodes)) = c.len-number.ensures ∙ after.nodes.ok.0 ∙ sym (length-map _ entry_of) in
-    closing_at (entry_of c.args.node) (state_of c.args.self.now) (state_of after) _ _ c.in_ok-close.ensures count nodes
+    closing_at (entry_of c.args.node) (state_of c.args.self.now) (state_of after) _ _ c.in_ok-close.ensures
+    (omega (arith, after.nodes.ok.0, length-map (vec_items after.nodes) entry_of)) nodes
