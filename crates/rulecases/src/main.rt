@@ -2,6 +2,7 @@
 //! newline and `\x` with two digits for any byte. Prints what is expected beside what came, and under a fault the report
 //! on it. A difference ends the run with status 1.
 #![tactic(auto)]
+
 mod case;
 mod escape;
 mod outcome;
