@@ -134,9 +134,11 @@ fn main() {
     time_store("list of 65536", &mut List::new(65_536), 100_000, 1_024);
     time_store("grid", &mut Grid::new(), 1_000_000, 64);
     time_reader(&text);
-    let table = table_of("rules.txt");
+    let Ok(table) = rules::read(&text) else {
+        return;
+    };
     time_session(&table);
+    time_judge(&table);
     time_windows("30 ticks", &table_of("bounded.txt"));
     time_windows("no bound", &table_of("unbounded.txt"));
-    time_judge(&table);
 }

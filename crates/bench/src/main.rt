@@ -3,6 +3,7 @@
 #![tactic(auto)]
 
 mod flight;
+mod growing;
 mod judged;
 mod measures;
 mod reading;

@@ -1,6 +1,6 @@
 //! Each measurement: the work, a line about it, and its time.
 use crate::stores::Work;
-use crate::{flight, judged, reading, stores};
+use crate::{flight, growing, judged, reading, stores};
 use anyhow::anyhow;
 use gridstore::GridStore;
 use liststore::ListStore;
@@ -88,13 +88,29 @@ fn time_windows(rt: &HostRuntime, windows: &str, table: &Table) -> anyhow::Resul
     Ok(())
 }
 
-fn time_judge(rt: &HostRuntime, table: &Table) -> anyhow::Result<()> {
+/// How often a rule was true in one judging of the twenty.
+fn time_judge(rt: &HostRuntime, table: &Table) -> anyhow::Result<u32> {
     let record = judged::random_record(rt.alloc())?;
     let start = Instant::now(rt)?;
     let yes = judged::judge_often(rt.alloc(), table, &record, 20)?;
     let micros = start.elapsed(rt)?.as_micros();
     println!(rt; "judge: {yes} true")?;
     eprintln!(rt; "judge: {micros}")?;
+    Ok(yes / 20)
+}
+
+/// The same record, state by state: it comes to what the judge says of it whole.
+fn time_growing(rt: &HostRuntime, table: &Table, yes: u32) -> anyhow::Result<()> {
+    let record = judged::random_record(rt.alloc())?;
+    let start = Instant::now(rt)?;
+    let Some(grown) = growing::grown(rt.alloc(), table, &record)? else {
+        return Err(anyhow!("a state is refused"));
+    };
+    let micros = start.elapsed(rt)?.as_micros();
+    if growing::count_true(&grown) != yes {
+        return Err(anyhow!("the record that grows comes to other values"));
+    }
+    eprintln!(rt; "growing record: {micros}")?;
     Ok(())
 }
 
@@ -102,7 +118,7 @@ fn table_of(rt: &HostRuntime, file: &str) -> anyhow::Result<Table> {
     let text = fs::read(rt, file)?;
     let room = Table::new(rt.alloc())?;
     let Ok(table) = room.read(text.as_slice()) else {
-        return Err(anyhow!("a rule file is refused"));
+        return Err(anyhow!("the rule file is refused"));
     };
     Ok(table)
 }
@@ -113,9 +129,10 @@ pub fn run_all(rt: &HostRuntime) -> anyhow::Result<()> {
     time_reader(rt, text.as_slice())?;
     let table = table_of(rt, "rules.txt")?;
     time_session(rt, &table)?;
+    let yes = time_judge(rt, &table)?;
+    time_growing(rt, &table, yes)?;
     let bounded = table_of(rt, "bounded.txt")?;
     time_windows(rt, "30 ticks", &bounded)?;
     let unbounded = table_of(rt, "unbounded.txt")?;
-    time_windows(rt, "no bound", &unbounded)?;
-    time_judge(rt, &table)
+    time_windows(rt, "no bound", &unbounded)
 }

@@ -70,46 +70,47 @@ module _ {K : Type 0} (k : Kind K) (r : Record K) (nodes : List Node) (m : ℕ) 
             filled a j la h ∙ ap (λ f. value k r f j) (sym (formula_before nodes m lm a la))
 
     -- one value more
-    module _ (total : length values ≡ count r * length nodes) (i : ℕ) (li : i < count r) (after : List K) (set_is : after ≡ set values (i * length nodes + m) (truths m i)) where
-      there : value_at k after (length nodes) m i ≡ truths m i
-      there =
+    module _ (total : length values ≡ count r * length nodes) (i : ℕ) (li : i < count r) (x : K) (after : List K) (set_is : after ≡ set values (i * length nodes + m) x) where
+      there : x ≡ truths m i → value_at k after (length nodes) m i ≡ truths m i
+      there p =
           ap (λ vs. value_at k vs (length nodes) m i) set_is
-          ∙ get_or-set_same values (i * length nodes + m) (truths m i) k.no (place_within i (length nodes) m (count r) (length values) li lm total)
+          ∙ get_or-set_same values (i * length nodes + m) x k.no (place_within i (length nodes) m (count r) (length values) li lm total)
+          ∙ p
 
       other_node : (a j : ℕ) → a < length nodes → (a ≡ m → ⊥) → value_at k after (length nodes) a j ≡ value_at k values (length nodes) a j
       other_node a j la ne =
           ap (λ vs. value_at k vs (length nodes) a j) set_is
-          ∙ get_or-set_other values (i * length nodes + m) (j * length nodes + a) (truths m i) k.no (place_apart (length nodes) m a i j lm la ne)
+          ∙ get_or-set_other values (i * length nodes + m) (j * length nodes + a) x k.no (place_apart (length nodes) m a i j lm la ne)
 
       other_state : (j : ℕ) → (j ≡ i → ⊥) → value_at k after (length nodes) m j ≡ value_at k values (length nodes) m j
       other_state j ne =
           ap (λ vs. value_at k vs (length nodes) m j) set_is
-          ∙ get_or-set_other values (i * length nodes + m) (j * length nodes + m) (truths m i) k.no (place_later (length nodes) m i j lm ne)
+          ∙ get_or-set_other values (i * length nodes + m) (j * length nodes + m) x k.no (place_later (length nodes) m i j lm ne)
 
       pub filled_keeps : Filled k r nodes after m
       filled_keeps a j la lj = other_node a j (omega arith) (omega arith) ∙ filled a j la lj
 
-      pub done_more : (from : ℕ) → from ≤ i + 1 → Done values from → Done after i
-      done_more from near done j le lj =
+      pub done_more : (from : ℕ) → from ≤ i + 1 → x ≡ truths m i → Done values from → Done after i
+      done_more from near p done j le lj =
           ⊎_elim
-          (λ (e : j ≡ i). subst (λ (n : ℕ). value_at k after (length nodes) m n ≡ truths m n) (sym e) there)
+          (λ (e : j ≡ i). subst (λ (n : ℕ). value_at k after (length nodes) m n ≡ truths m n) (sym e) (there p))
           (λ ne. other_state j ne ∙ done j (omega arith) lj)
           (cases_eq j i)
 
-      pub right_keeps : (stays : ℕ → K → Bool) → Right k r nodes values stays → Right k r nodes after stays
-      right_keeps stays right a j la lj =
+      pub right_keeps : x ≡ truths m i → (stays : ℕ → K → Bool) → Right k r nodes values stays → Right k r nodes after stays
+      right_keeps p stays right a j la lj =
           ⊎_elim
           (λ (e : a ≡ m).
           subst (λ (n : ℕ). stays j (value_at k after (length nodes) n j) ≡ true → value_at k after (length nodes) n j ≡ truths n j) (sym e)
           (⊎_elim
-          (λ (f : j ≡ i). λ _. subst (λ (n : ℕ). value_at k after (length nodes) m n ≡ truths m n) (sym f) there)
+          (λ (f : j ≡ i). λ _. subst (λ (n : ℕ). value_at k after (length nodes) m n ≡ truths m n) (sym f) (there p))
           (λ ne. same m j lm lj (other_state j ne))
           (cases_eq j i)))
           (λ ne. same a j la lj (other_node a j la ne))
           (cases_eq a m)
         where
           same : (a j : ℕ) → a < length nodes → j < count r → value_at k after (length nodes) a j ≡ value_at k values (length nodes) a j → stays j (value_at k after (length nodes) a j) ≡ true → value_at k after (length nodes) a j ≡ truths a j
-          same a j la lj e = subst (λ (x : K). stays j x ≡ true → x ≡ truths a j) (sym e) (right a j la lj)
+          same a j la lj e = subst (λ (v : K). stays j v ≡ true → v ≡ truths a j) (sym e) (right a j la lj)
 
   pub filled_more : (values : List K) (from : ℕ) → from ≤ 0 → Filled k r nodes values m → Done values from → Filled k r nodes values (m + 1)
   filled_more values from start filled done a j la lj =

@@ -1,6 +1,6 @@
 //! A record that grows state by state, with the value of every node of a table at every state.
 //!
-//! True and false stay as the record grows and when it is finished, so only what is undecided is worked out again.
+//! True and false stay while the record grows and when it is finished, so only what is undecided is worked out again.
 ghost use Rattle.std.specs.Prelude.{◌≡◌, ℕ, ◌+◌, ◌*◌, ◌<◌, ◌≤◌, true, false, [], ◌∷◌, ◌++◌, length, is_ok, if◌then◌else◌, vec_len, vec_capacity, slice_index_or};
 ghost use Rattle.truth.specs.Kleene.{three};
 ghost use Rattle.truth.specs.declared.Three.{Three as Value};
@@ -106,6 +106,7 @@ impl<'t> EvaluatedRecord<'t> {
     /// One more state, with its row; refused with no room for it, or a stamp that is not later than the last, and the
     /// record is then as it was.
     /// Cost: a look at the value of each node at each state, and the window of each that is undecided; no allocation.
+    /// A finished record takes states too, and then works out every value anew.
     pub fn push(&mut self, stamp: u64, row: u64) -> Result<(), Misfit>
         ensures answer { result ≡ state_fit self.old.stamps.items stamp }
         ensures table { self.new.table.now ≡ self.old.table.now }

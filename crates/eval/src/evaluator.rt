@@ -139,7 +139,8 @@ fn settle<K: Truth, L: Leaves<K>, S: Standing<K>>(
     write(values, stamps.len(), nodes.len(), m, i, value);
 }
 
-/// Puts the values of node `m` at every state into their places, from the last state to the first.
+/// Puts the values of node `m` at every state into their places, from the last state to the first, but for those that
+/// stand.
 fn settle_node<K: Truth, L: Leaves<K>, S: Standing<K>>(
     nodes: &[Node],
     m: usize,

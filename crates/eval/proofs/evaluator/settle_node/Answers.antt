@@ -1,4 +1,4 @@
-use Rattle.std.proofs.Common.{◌-◌, length, ◌∙◌, arith}
+use Rattle.std.proofs.Common.{◌-◌, length, refl, ◌∙◌, arith}
 use Rattle.eval.specs.Stamps.{record_of}
 use Rattle.eval.proofs.Filling.{truths, kept_none, kept_columns, kept_truths, filled_keeps, done_more, right_keeps, filled_more}
 use Rattle.eval.proofs.evaluator.settle_node.Goals as goal
@@ -27,11 +27,12 @@ loop-i-preserved g c =
     let m = c.args.m in
     let old = c.loop-i.values in
     let i = c.loop-i.i - 1 in
+    let x = truths k r nodes m m i in
     let new = c.settle.new.values in (
       omega (arith, c.loop-i.invariant.0),
-      filled_keeps k r nodes m c.requires.within.0 c.requires.ordered old c.loop-i.invariant.1 c.loop-i.invariant.0 i (omega arith) new c.settle.ensures,
-      done_more k r nodes m c.requires.within.0 c.requires.ordered old c.loop-i.invariant.1 c.loop-i.invariant.0 i (omega arith) new c.settle.ensures c.loop-i.i (omega arith) c.loop-i.invariant.2,
-      right_keeps k r nodes m c.requires.within.0 c.requires.ordered old c.loop-i.invariant.1 c.loop-i.invariant.0 i (omega arith) new c.settle.ensures (g.S.Standing.stays c.args.standing.now) c.loop-i.invariant.3,
+      filled_keeps k r nodes m c.requires.within.0 c.requires.ordered old c.loop-i.invariant.1 c.loop-i.invariant.0 i (omega arith) x new c.settle.ensures,
+      done_more k r nodes m c.requires.within.0 c.requires.ordered old c.loop-i.invariant.1 c.loop-i.invariant.0 i (omega arith) x new c.settle.ensures c.loop-i.i (omega arith) refl c.loop-i.invariant.2,
+      right_keeps k r nodes m c.requires.within.0 c.requires.ordered old c.loop-i.invariant.1 c.loop-i.invariant.0 i (omega arith) x new c.settle.ensures refl (g.S.Standing.stays c.args.standing.now) c.loop-i.invariant.3,
       kept_truths k r nodes m c.requires.within.0 c.requires.ordered old c.loop-i.invariant.1 i c.kept_at-held.ensures,
     )
 
