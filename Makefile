@@ -8,7 +8,7 @@ test:
 
 # A small survey flight on the whole library. It is built by a first run, which ends at once, since its rule file is not there.
 flight:
-	cd crates/flight && { rt run >/dev/null 2>&1; cd data && ../out/flight; }
+	cd crates/flight && rt check >/dev/null && { rt run >/dev/null 2>&1; cd data && ../out/flight; }
 
 # The benchmark beside a plain Rust program that does the same work.
 bench:
