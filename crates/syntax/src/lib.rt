@@ -26,6 +26,7 @@ pub enum Query {
 }
 
 /// A formula whose operands are numbers of other nodes.
+// Stays: operands are numbers: a row has its bits by them, users see them, and reading asks for no memory.
 #[derive(Clone, Copy)]
 pub enum Node {
     True,
