@@ -1,19 +1,22 @@
 -- The facts of a grid of words.
-use Rattle.std.specs.Prelude.{◌≡◌, ℕ, zero, suc, ◌+◌, ◌-◌, ◌*◌, ◌/◌, ◌%◌, ◌^◌, ◌<◌, ◌≤◌, Bool, true, false, not, ◌&&◌, ◌||◌, T, leb, ◌⊎◌, List, [], ◌∷◌, length, drop, replicate, ℤ, pos, negsuc, Some, None, MatchBool, ◌==◌, ◌≢◌, bit_and, bit_or, count_ones, int_le, int_lt, nat_eq, nat_le, slice_index, slice_index_or, slice_set, unsigned_abs, refl}
-use Rattle.std.proofs.Common.{sym, ap, ◌∙◌, subst, ⊎_elim, zero-le, suc-le-suc, le_of_suc-le-suc, not-suc-le-zero, pow-suc, arith, add-one}
-use Rattle.std.specs.Int.Signed.{non_neg}
+use Rattle.std.specs.Prelude.{◌≡◌, ℕ, zero, suc, ◌+◌, ◌-◌, ◌*◌, ◌/◌, ◌%◌, ◌^◌, ◌<◌, ◌≤◌, Bool, true, false, not, ◌&&◌, ◌||◌, ltb, List, [], ◌∷◌, length, replicate, ℤ, pos, negsuc, Some, None, Option, ◌==◌, ◌≢◌, bit_and, bit_or, count_ones, int_le, int_lt, nat_eq, nat_le, slice_index, slice_index_or, slice_set, unsigned_abs, refl}
+use Rattle.std.proofs.Common.{sym, ap, ◌∙◌, subst, ⊎_elim, zero-le, suc-le-suc, le_of_suc-le-suc, not-suc-le-zero, pow-suc, arith, lit<}
+use Rattle.std.specs.List.{sum_by}
+use Rattle.std.specs.Bool.{then_some}
+use Rattle.std.specs.Int.{int_max}
 use Rattle.std.specs.Int.Count.{ones_step}
 use Rattle.std.proofs.lemmas.Nat.{ones-le}
+use Rattle.std.proofs.lemmas.List.Sums.{sum_by-cons}
 use Rattle.std.proofs.lemmas.Bool.Decides.{nat_tests}
 use Rattle.std.proofs.lemmas.Int.{ints}
-use Rattle.std.proofs.lemmas.List.{length-append, length-set, get_or-set_same, get_or-set_other, drop_more, drop_all}
-use Rattle.std.proofs.lemmas.Bool.{and_from, both_ways, or_cases, or_from, or_left, or_right, eqb-true, eqb-false, eq-eqb, cases_eq, and_right, ne_eqb, leb-true, le-leb, cases_lt}
+use Rattle.std.proofs.lemmas.List.{length-append, length-set, get_or-set_same, get_or-set_other}
+use Rattle.std.proofs.lemmas.Bool.{and_from, both_ways, or_cases, or_from, or_left, or_right, eqb-true, eqb-false, eq-eqb, cases_eq, and_right, ne_eqb, leb-true, le-leb, ltb-true, ltb-false, cases_lt}
 use Rattle.store.specs.declared.facts.Fact.{Fact}
 use Rattle.store.specs.Facts.{before, same, rising, holds, with_fact, without_fact, at_or_after, first_from, fact_of, in_range}
-use Rattle.gridstore.specs.Grid.{grid_takes, word_of, bit_of, has_bit, grid_fact, word_facts, row_facts, words_facts, grid_meaning, FirstBit, LowBit, Present, Absent}
+use Rattle.gridstore.specs.Grid.{grid_takes, word_of, bit_of, has_bit, grid_fact, word_facts, row_facts, words_facts, grid_meaning, FirstBit, LowBit, FirstAhead}
 use Rattle.store.proofs.Walks.{first_relation}
 use Rattle.store.proofs.Order.{fact_same, same_refl, same_eq}
-use Rattle.store.proofs.Sets.{by_bool, rising_with, rising_without, with_present, without_absent, length_with_absent}
+use Rattle.store.proofs.Sets.{by_bool, rising_with, rising_without, length_with_absent}
 use Rattle.gridstore.specs.Binary.{bit_set, bit_cleared, bit_test}
 use Rattle.store.proofs.Members.{same_bool, holds_append, before_all_members, rising_append, same_members, holds_with, holds_without, first_is, first_none}
 
@@ -274,14 +277,6 @@ module _ (ws : List ℕ) (size : length ws ≡ 1024) (f : Fact) (t : grid_takes 
       (λ u. changed (λ a b. not a && b) (λ b. refl) bits g u ∙ sym (holds_without g f (words_facts 0 ws)))
       (λ u. not_held changed_words changed_size g u ∙ sym (holds_without g f (words_facts 0 ws) ∙ and_right _ _ (not_held ws size g u))))
 
-pub taken_not_negative : (f : Fact) → grid_takes f ≡ true → T (non_neg f.value)
-unfolding grid_takes
-taken_not_negative f h = from f.value (grind (arith, nat_tests))
-  where
-    from : (z : ℤ) → int_le (pos 0) z ≡ true → T (non_neg z)
-    from (pos n) p = tt
-    from (negsuc n) p = absurd (both_ways false refl p)
-
 word_none : (i v n : ℕ) → word_facts i v n 0 ≡ []
 word_none i v zero = refl
 word_none i v (suc n) = word_none i (suc v) n
@@ -297,83 +292,98 @@ no_facts i (suc n) = rw (row_none i) (no_facts (suc i) n)
 pub no_words : (n : ℕ) → grid_meaning (replicate n 0) ≡ grid_meaning []
 no_words n = ap (λ (xs : List Fact). record { facts = xs; takes = grid_takes; room = 65536 }) (no_facts 0 n)
 
--- ---- the operations
+-- ---- the operations at a fact that is taken
 
 module _ (ws : List ℕ) (size : length ws ≡ 1024) (f : Fact) (t : grid_takes f ≡ true) where
-  pub grid_put : (n p : ℕ) → n ≡ word_of f → p ≡ bit_of f → words_facts 0 (slice_set ws n (bit_or (slice_index ws n) ((1 * 2 ^ p) % 2 ^ 64))) ≡ with_fact f (words_facts 0 ws)
-  grid_put n p i b = rw (i, b) (grid_with ws size f t (bit_or (slice_index ws (word_of f)) ((1 * 2 ^ bit_of f) % 2 ^ 64)) (bit_set (slice_index ws (word_of f)) (bit_of f) (taken_bit f t)))
+  put_bit : (n p : ℕ) → n ≡ word_of f → p ≡ bit_of f → words_facts 0 (slice_set ws n (bit_or (slice_index ws n) ((1 * 2 ^ p) % 2 ^ 64))) ≡ with_fact f (words_facts 0 ws)
+  put_bit n p i b = rw (i, b) (grid_with ws size f t (bit_or (slice_index ws (word_of f)) ((1 * 2 ^ bit_of f) % 2 ^ 64)) (bit_set (slice_index ws (word_of f)) (bit_of f) (taken_bit f t)))
 
-  pub grid_drop : (n p : ℕ) → n ≡ word_of f → p ≡ bit_of f → words_facts 0 (slice_set ws n (bit_and (slice_index ws n) ((2 ^ 64 - 1) - (1 * 2 ^ p) % 2 ^ 64))) ≡ without_fact f (words_facts 0 ws)
-  grid_drop n p i b = rw (i, b) (grid_without ws size f t (bit_and (slice_index ws (word_of f)) ((2 ^ 64 - 1) - (1 * 2 ^ bit_of f) % 2 ^ 64)) (bit_cleared (slice_index ws (word_of f)) (bit_of f) (taken_bit f t)))
+  clear_bit : (n p : ℕ) → n ≡ word_of f → p ≡ bit_of f → words_facts 0 (slice_set ws n (bit_and (slice_index ws n) ((2 ^ 64 - 1) - (1 * 2 ^ p) % 2 ^ 64))) ≡ without_fact f (words_facts 0 ws)
+  clear_bit n p i b = rw (i, b) (grid_without ws size f t (bit_and (slice_index ws (word_of f)) ((2 ^ 64 - 1) - (1 * 2 ^ bit_of f) % 2 ^ 64)) (bit_cleared (slice_index ws (word_of f)) (bit_of f) (taken_bit f t)))
 
   -- a clear bit leaves room
   pub grid_room : holds f (words_facts 0 ws) ≡ false → (length (words_facts 0 ws) == 65536) ≡ false
   grid_room h =
       let x : ℕ = bit_or (slice_index ws (word_of f)) ((1 * 2 ^ bit_of f) % 2 ^ 64) in
-      let more = ap length (grid_put (word_of f) (bit_of f) refl refl) ∙ length_with_absent f (words_facts 0 ws) h in
+      let more = ap length (put_bit (word_of f) (bit_of f) refl refl) ∙ length_with_absent f (words_facts 0 ws) h in
       let most = words_length 0 (slice_set ws (word_of f) x) in
       let long : length (slice_set ws (word_of f) x) ≡ 1024 = length-set ws (word_of f) x ∙ size in
       ne_eqb _ _ (λ e. omega (arith, more, most, long))
 
-  pub grid_contains : (n p : ℕ) → n ≡ word_of f → p ≡ bit_of f → (bit_and (slice_index ws n / 2 ^ p) 1 == 1) ≡ holds f (words_facts 0 ws)
-  grid_contains n p i b = rw (i, b) (bit_test (slice_index ws (word_of f)) (bit_of f) ∙ sym (held ws size f t))
+  test_bit : (n p : ℕ) → n ≡ word_of f → p ≡ bit_of f → (bit_and (slice_index ws n / 2 ^ p) 1 == 1) ≡ holds f (words_facts 0 ws)
+  test_bit n p i b = rw (i, b) (bit_test (slice_index ws (word_of f)) (bit_of f) ∙ sym (held ws size f t))
 
--- ---- a fact's bit, as a put and a drop want it
+-- ---- the same at a place
 
-module _ (ws : List ℕ) (size : length ws ≡ 1024) (f : Fact) where
-  abbrev facts : List Fact
-  facts = words_facts 0 ws
+module _ (ws : List ℕ) (size : length ws ≡ 1024) (i v : ℕ) (l : i < 1024) (h : v < 64) where
+  abbrev here : Fact
+  here = grid_fact i v
 
-  pub absent_taken_not : grid_takes f ≡ false → Absent f facts
-  absent_taken_not t =
-      let h = not_held ws size f t in
-      record { missing = h; stays = without_absent f facts h; room = λ u. absurd (both_ways (grid_takes f) t u) }
+  taken : grid_takes here ≡ true
+  taken = grid_fact_taken i v l h
 
-  pub test_cases : grid_takes f ≡ true → (r : Bool) → r ≡ holds f facts → MatchBool r (Present f facts) (Absent f facts)
-  test_cases t true e = record { held = sym e; taken = t; stays = with_present f facts (words_rise 0 ws) (sym e) }
-  test_cases t false e = record {
-    missing = sym e;
-    stays = without_absent f facts (sym e);
-    room = λ _. grid_room ws size f t (sym e);
-  }
+  pub grid_put : words_facts 0 (slice_set ws i (bit_or (slice_index ws i) ((1 * 2 ^ v) % 2 ^ 64))) ≡ with_fact here (words_facts 0 ws)
+  grid_put = put_bit ws size here taken i v (sym (word_of_grid i v)) (sym (bit_of_grid i v))
+
+  pub grid_drop : words_facts 0 (slice_set ws i (bit_and (slice_index ws i) ((2 ^ 64 - 1) - (1 * 2 ^ v) % 2 ^ 64))) ≡ without_fact here (words_facts 0 ws)
+  grid_drop = clear_bit ws size here taken i v (sym (word_of_grid i v)) (sym (bit_of_grid i v))
+
+  pub grid_contains : (bit_and (slice_index ws i / 2 ^ v) 1 == 1) ≡ holds here (words_facts 0 ws)
+  grid_contains = test_bit ws size here taken i v (sym (word_of_grid i v)) (sym (bit_of_grid i v))
 
 -- ---- the count, word by word
 
-pub count_more : (ws : List ℕ) (i : ℕ) → i < length ws → slice_index ws i < 2 ^ 64 → length (words_facts i (drop i ws)) ≡ count_ones (slice_index ws i) + length (words_facts (i + 1) (drop (i + 1) ws))
-count_more ws i l h =
-    ap (λ (xs : List ℕ). length (words_facts i xs)) (drop_more ws i 0 l)
-    ∙ length-append (row_facts i (slice_index ws i)) (words_facts (suc i) (drop (i + 1) ws))
-    ∙ ap (λ (n : ℕ). n + length (words_facts (suc i) (drop (i + 1) ws))) (row_count i (slice_index ws i) h)
-    ∙ ap (λ (n : ℕ). count_ones (slice_index ws i) + length (words_facts n (drop (i + 1) ws))) (sym (add-one i))
-
-pub count_all : (ws : List ℕ) (i : ℕ) → length ws ≤ i → length (words_facts i (drop i ws)) ≡ 0
-count_all ws i l = ap (λ (xs : List ℕ). length (words_facts i xs)) (drop_all i ws l)
+-- the facts of the words, by the ones of each word
+pub words_count : (i : ℕ) (ws : List ℕ) → ((k : ℕ) → k < length ws → slice_index ws k < 2 ^ 64) → sum_by count_ones ws ≡ length (words_facts i ws)
+words_count i [] h = refl
+words_count i (w ∷ ws) h =
+    let here = row_count i w (h 0 (suc-le-suc zero-le)) in
+    let rest = words_count (suc i) ws (λ k l. h (suc k) (suc-le-suc l)) in
+    rw (length-append (row_facts i w) (words_facts (suc i) ws)) (omega (arith, here, rest, sum_by-cons count_ones w ws))
 
 -- ---- the walk, key by key
 
-pub low_at_once : (start : Fact) (key : ℕ) → start.key < key → LowBit start key 0
+pub low_at_once : (start : Fact) (key : ℕ) → start.key < key → LowBit start key (Some 0)
 unfolding at_or_after before
-low_at_once start key h v l = grind (arith, nat_tests, ints)
+low_at_once start key h = (lit< tt, at)
+  where
+    at : (v : ℕ) → v < 64 → at_or_after start (fact_of start.relation key (pos v)) ≡ nat_le 0 v
+    at v l = grind (arith, nat_tests, ints)
 
-pub low_at_zero : (start : Fact) (key : ℕ) → start.key ≤ key → int_le start.value (pos 0) ≡ true → LowBit start key 0
+same_key : (start : Fact) (key v : ℕ) → key ≡ start.key → at_or_after start (fact_of start.relation key (pos v)) ≡ not (int_lt (pos v) start.value)
 unfolding at_or_after before
-low_at_zero start key h z v l = grind (arith, nat_tests, ints)
-
-pub low_at_none : (start : Fact) (key : ℕ) → start.key ≡ key → int_lt (pos 63) start.value ≡ true → LowBit start key 64
-unfolding at_or_after before
-low_at_none start key h z v l = grind (arith, nat_tests, ints)
-
-low_value : (z : ℤ) (v : ℕ) → int_le z (pos 0) ≡ false → not (int_lt (pos v) z) ≡ nat_le (unsigned_abs z) v
-low_value (pos n) v h = grind (arith, nat_tests)
-low_value (negsuc n) v h = absurd (both_ways true h refl)
-
-pub low_at_value : (start : Fact) (key : ℕ) → start.key ≡ key → int_le start.value (pos 0) ≡ false → LowBit start key (unsigned_abs start.value)
-unfolding at_or_after before
-low_at_value start key h z v l =
-    let e = low_value start.value v z in
-    let k : nat_eq key start.key ≡ true = eq-eqb key start.key (sym h) in
+same_key start key v h =
+    let k : nat_eq key start.key ≡ true = eq-eqb key start.key h in
     let r : nat_eq start.relation start.relation ≡ true = eq-eqb start.relation start.relation refl in
-    rw (r, k) e
+    rw (r, k)
+
+pub low_at_value : (start : Fact) (key n : ℕ) → start.key ≤ key → key ≤ start.key → n ≡ unsigned_abs (int_max start.value (pos 0)) → LowBit start key (then_some (ltb n 64) n)
+low_at_value start key n a b e =
+    by_bool (ltb n 64) (λ l. rw l (ltb-true n 64 l, at)) (λ l. rw l (λ v h. at v h ∙ above v h (ltb-false n 64 l)))
+  where
+    value : (z : ℤ) (m v : ℕ) → m ≡ unsigned_abs (int_max z (pos 0)) → not (int_lt (pos v) z) ≡ nat_le m v
+    value z m v q = grind (arith, nat_tests, ints)
+
+    at : (v : ℕ) → v < 64 → at_or_after start (fact_of start.relation key (pos v)) ≡ nat_le n v
+    at v h = same_key start key v (omega arith) ∙ value start.value n v e
+
+    above : (v : ℕ) → v < 64 → 64 ≤ n → nat_le n v ≡ false
+    above v h k = grind (arith, nat_tests)
+
+pub first_ahead_none : (w : ℕ) (start : Fact) (key : ℕ) → LowBit start key None → FirstAhead w start key None
+first_ahead_none w start key low = λ v l e. absurd (both_ways _ (low v l) e)
+
+pub first_ahead_from : (w : ℕ) (start : Fact) (key low : ℕ) (o : Option ℕ) → LowBit start key (Some low) → FirstBit w low o → FirstAhead w start key o
+first_ahead_from w start key low None at first = λ v l e. first v (leb-true low v (sym (at.1 v l) ∙ e)) l
+first_ahead_from w start key low (Some n) at first = (
+  first.1,
+  first.2,
+  at.1 n first.1 ∙ le-leb low n first.0,
+  λ v l e. first.3 v (leb-true low v (sym (at.1 v (below v l first.1)) ∙ e)) l,
+)
+  where
+    below : (v : ℕ) → v < n → n < 64 → v < 64
+    below v l h = omega arith
 
 met_key : (start y : Fact) → at_or_after start y ≡ true → start.key ≤ y.key
 unfolding at_or_after before
@@ -418,53 +428,50 @@ module _ (ws : List ℕ) (size : length ws ≡ 1024) (start : Fact) where
   none_met : ((y : Fact) → holds y (words_facts 0 ws) ≡ true → at_or_after start y ≢ true) → None ≡ first_from start (words_facts 0 ws)
   none_met h = first_none start (words_facts 0 ws) (λ y m. by_bool (at_or_after start y) (λ e. absurd (h y m e)) (λ e. e))
 
-  pub walk_outside : (15 < start.relation) ⊎ ((start.relation ≤ 15) × (63 < start.key)) → None ≡ first_from start (words_facts 0 ws)
+  pub walk_outside : 15 < start.relation → None ≡ first_from start (words_facts 0 ws)
   walk_outside o =
       none_met (λ y m e.
       let p = taken_parts y (held_taken ws size y m) in
       let r = first_relation start y e in
-      let k = met_key start y e in
-      ⊎_elim (λ a. omega (arith, p.0)) (λ a. omega (arith, a.1, p.1)) o)
+      omega (arith, p.0))
 
   pub walk_end : (key : ℕ) → 64 ≤ key → Passed key → None ≡ first_from start (words_facts 0 ws)
   walk_end key h passed = none_met (λ y m e. omega (arith, (taken_parts y (held_taken ws size y m)).1, passed y m e))
 
-  module _ (key low : ℕ) (from : LowBit start key low) where
-    -- a fact of this key that is ahead has its bit in this word, from low on
+  module _ (key : ℕ) where
+    -- a fact of this key that is ahead has its bit in this word
     bit_ahead : (y : Fact) → holds y (words_facts 0 ws) ≡ true → at_or_after start y ≡ true → y.key ≡ key
-        → (y ≡ fact_of start.relation key (pos (bit_of y))) × (bit_of y < 64) × (low ≤ bit_of y) × (has_bit (slice_index ws (start.relation * 64 + key)) (bit_of y) ≡ true)
+        → (y ≡ fact_of start.relation key (pos (bit_of y))) × (bit_of y < 64) × (at_or_after start (fact_of start.relation key (pos (bit_of y))) ≡ true) × (has_bit (slice_index ws (start.relation * 64 + key)) (bit_of y) ≡ true)
     bit_ahead y m e k =
         let t = held_taken ws size y m in
         let r : y.relation ≡ start.relation = first_relation start y e in
         let shape : y ≡ fact_of start.relation key (pos (bit_of y)) =
         taken_fact y t ∙ ap (λ (n : ℕ). fact_of n y.key (pos (bit_of y))) r ∙ ap (λ (n : ℕ). fact_of start.relation n (pos (bit_of y))) k in
-        let small = taken_bit y t in
-        let above : leb low (bit_of y) ≡ true = sym (from (bit_of y) small) ∙ subst (λ (w : Fact). at_or_after start w ≡ true) shape e in
         let place : word_of y ≡ start.relation * 64 + key = word_of_is y ∙ ap (λ (n : ℕ). n * 64 + y.key) r ∙ ap (λ (n : ℕ). start.relation * 64 + n) k in
-        (shape, small, leb-true low (bit_of y) above, subst (λ (n : ℕ). has_bit (slice_index ws n) (bit_of y) ≡ true) place (sym (held ws size y t) ∙ m))
+        (shape, taken_bit y t, subst (λ (w : Fact). at_or_after start w ≡ true) shape e, subst (λ (n : ℕ). has_bit (slice_index ws n) (bit_of y) ≡ true) place (sym (held ws size y t) ∙ m))
 
-    pub walk_again : FirstBit (slice_index ws (start.relation * 64 + key)) low None → Passed key → Passed (key + 1)
+    pub walk_again : FirstAhead (slice_index ws (start.relation * 64 + key)) start key None → Passed key → Passed (key + 1)
     walk_again none passed y m e =
         let k = passed y m e in
         ⊎_elim
-        (λ q. let b = bit_ahead y m e q in absurd (both_ways _ (none (bit_of y) b.2 b.1) b.3))
+        (λ q. let b = bit_ahead y m e q in absurd (both_ways _ (none (bit_of y) b.1 b.2) b.3))
         (λ q. apart key y.key k q) (cases_eq y.key key)
       where
         apart : (a b : ℕ) → a ≤ b → (b ≢ a) → a + 1 ≤ b
         apart a b h n = grind arith
 
-    pub walk_found : (n : ℕ) → start.relation ≤ 15 → key < 64 → FirstBit (slice_index ws (start.relation * 64 + key)) low (Some n) → Passed key → Some (fact_of start.relation key (pos n)) ≡ first_from start (words_facts 0 ws)
+    pub walk_found : (n : ℕ) → start.relation ≤ 15 → key < 64 → FirstAhead (slice_index ws (start.relation * 64 + key)) start key (Some n) → Passed key → Some (fact_of start.relation key (pos n)) ≡ first_from start (words_facts 0 ws)
     walk_found n r k found passed =
         let x = fact_of start.relation key (pos n) in
-        let t = small_taken start.relation key n r k found.1 in
+        let t = small_taken start.relation key n r k found.0 in
         first_is start x (words_facts 0 ws) (words_rise 0 ws)
-        (held ws size x t ∙ ap (has_bit (slice_index ws (word_of x))) (bit_of_is start.relation key n) ∙ ap (λ (i : ℕ). has_bit (slice_index ws i) n) (word_of_is x) ∙ found.2)
-        (from n found.1 ∙ le-leb low n found.0)
+        (held ws size x t ∙ ap (has_bit (slice_index ws (word_of x))) (bit_of_is start.relation key n) ∙ ap (λ (i : ℕ). has_bit (slice_index ws i) n) (word_of_is x) ∙ found.1)
+        found.2
         (λ y m e.
         ⊎_elim
         (λ q.
         let b = bit_ahead y m e q in
-        let later : n ≤ bit_of y = ⊎_elim (λ l. absurd (both_ways _ (found.3 (bit_of y) b.2 l) b.3)) (λ l. l) (cases_lt (bit_of y) n) in
+        let later : n ≤ bit_of y = ⊎_elim (λ l. absurd (both_ways _ (found.3 (bit_of y) l b.2) b.3)) (λ l. l) (cases_lt (bit_of y) n) in
         subst (λ (w : Fact). before w x ≡ false) (sym b.0) (value_not_before start.relation key n (bit_of y) later))
         (λ q. key_not_before y start.relation key n (first_relation start y e) (apart key y.key (passed y m e) q)) (cases_eq y.key key))
       where

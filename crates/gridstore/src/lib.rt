@@ -1,15 +1,19 @@
 //! A store with one bit for each fact that it takes.
 #![tactic(auto)]
 
-ghost use Rattle.std.specs.Prelude.{◌≡◌, ◌<◌, ◌≤◌, true, length, Err, MatchBool, ◌≢◌};
+ghost use Rattle.std.specs.Prelude.{◌≡◌, ◌<◌, ◌≤◌, true, false, length, Err, MatchOption, ◌≢◌};
 ghost use Rattle.store.specs.declared.stores.StoreFault.TheVariants.{Full};
 ghost use Rattle.store.specs.Stores.{empty, put_answer, after_put};
-ghost use Rattle.gridstore.specs.Grid.{grid_takes, word_of, bit_of, words_facts, grid_meaning, Present, Absent, FirstBit, LowBit};
+ghost use Rattle.gridstore.specs.Grid.{grid_takes, words_facts, grid_meaning, grid_fact, FirstBit, LowBit, FirstAhead};
 ghost use Rattle.store.specs.Facts.{holds, with_fact, without_fact, first_from};
 ghost use Rattle.std.proofs.Common.{arith, lit<};
 ghost use Rattle.gridstore.specs.Grids.{words_rise, words_length, held_taken, taken_in_range};
 
 use store::{Fact, Store, StoreFault};
+
+const LAST_RELATION: u8 = 15;
+
+const LAST_KEY: u32 = 63;
 
 /// Takes the facts with keys from 0 to 63 and values from 0 to 63. Bit v of word 64 r + k stands for the fact of
 /// relation r, key k and value v, so a word holds the values of one key, in order.
@@ -20,59 +24,66 @@ pub struct GridStore {
 }
 
 /// Whether the grid has a bit for the fact.
+#[tactic(auto, unfolding(crate::specs::Grid::grid_takes, store::specs::Facts::value_in))]
 fn is_taken(fact: Fact) -> bool
     ensures { result ≡ grid_takes fact }
 {
-    if fact.relation > 15 || fact.key > 63 {
-        return false;
+    fact.relation <= LAST_RELATION && fact.key <= LAST_KEY && fact.value_in(0, 63)
+}
+
+/// Where the grid keeps a fact that it takes.
+#[derive(Clone, Copy)]
+struct Place {
+    word: usize,
+    bit: u32,
+    ghost word_within: { word < 1024 },
+    ghost bit_within: { bit < 64 },
+}
+
+impl Place {
+    /// The fact's place, or none if the grid does not take the fact.
+    #[tactic(auto, using(crate::specs::Grids::taken_word, crate::specs::Grids::taken_bit, crate::specs::Grids::taken_shape), unfolding(crate::specs::Grid::word_of, crate::specs::Grid::bit_of))]
+    fn of(fact: Fact) -> Option<Place>
+        ensures { MatchOption result (grid_takes fact ≡ false) (λ p. (grid_takes fact ≡ true) × (grid_fact p.word p.bit ≡ fact)) }
+    {
+        if !is_taken(fact) {
+            return None;
+        }
+        Some(Place {
+            word: usize::from(fact.relation) * 64 + fact.key as usize,
+            bit: fact.value.unsigned_abs(),
+        })
     }
-    0 <= fact.value && fact.value <= 63
-}
-
-/// The word with the fact's bit.
-fn word_of(fact: Fact) -> usize
-    requires { grid_takes fact ≡ true }
-    ensures value { result ≡ word_of fact }
-    ensures bound { result < 1024 }
-{
-    fact.relation as usize * 64 + fact.key as usize
-}
-
-/// The fact's bit in its word.
-fn bit_of(fact: Fact) -> u32
-    requires { grid_takes fact ≡ true }
-    ensures value { result ≡ bit_of fact }
-    ensures bound { result < 64 }
-{
-    fact.value as u32
 }
 
 /// The first bit of the word that is set, from `low` on: a shift and a count of trailing zeros.
+#[tactic(auto, using(crate::specs::Binary::first_bit_none, crate::specs::Binary::first_bit_some))]
 fn first_bit(word: u64, low: u32) -> Option<u32>
     ensures { FirstBit word low result }
 {
-    if low > 63 {
-        return None;
-    }
-    let rest = word >> low;
-    if rest == 0 {
-        return None;
-    }
-    Some(low + rest.trailing_zeros())
+    let rest = word.checked_shr(low)?;
+    (rest != 0).then_some(low + rest.trailing_zeros())
 }
 
-/// The least bit that stands for a fact of the key at or after `start`.
-fn low_bit(start: Fact, key: u32) -> u32
+/// The least bit that stands for a fact of the key at or after `start`, if one does.
+fn low_bit(start: Fact, key: u32) -> Option<u32>
     requires { start.key ≤ key }
     ensures { LowBit start key result }
 {
-    if key > start.key || start.value <= 0 {
-        return 0;
+    if key > start.key {
+        return Some(0);
     }
-    if start.value > 63 {
-        return 64;
-    }
-    start.value as u32
+    let low = start.value.max(0).unsigned_abs();
+    (low < 64).then_some(low)
+}
+
+/// The first bit of the key's word that is set and stands for a fact at or after `start`.
+#[tactic(auto, using(crate::specs::Grids::first_ahead_none, crate::specs::Grids::first_ahead_from))]
+fn first_ahead(word: u64, start: Fact, key: u32) -> Option<u32>
+    requires { start.key ≤ key }
+    ensures { FirstAhead word start key result }
+{
+    first_bit(word, low_bit(start, key)?)
 }
 
 /// How many bits of the words are set.
@@ -80,11 +91,7 @@ fn ones_of(words: &[u64]) -> usize
     requires { length words.now ≤ 1024 }
     ensures { result ≡ length (words_facts 0 words.now) }
 {
-    let mut total = 0;
-    for word in words {
-        total += word.count_ones() as usize;
-    }
-    total
+    words.iter().map(|word| word.count_ones() as usize).sum()
 }
 
 impl GridStore {
@@ -95,46 +102,40 @@ impl GridStore {
         GridStore { words: [0; 1024] }
     }
 
-    /// Whether the fact's bit is set.
-    fn is_set(&self, fact: Fact) -> bool
-        ensures answer { result ≡ holds fact (words_facts 0 self.now.words) }
-        ensures cases { MatchBool result (Present fact (words_facts 0 self.now.words)) (Absent fact (words_facts 0 self.now.words)) }
+    /// Whether the bit is set.
+    #[tactic(auto, using(crate::specs::Grids::grid_contains))]
+    fn is_set(&self, place: Place) -> bool
+        ensures { result ≡ holds (grid_fact place.word place.bit) (words_facts 0 self.now.words) }
     {
-        if !is_taken(fact) {
-            return false;
-        }
-        (self.words[word_of(fact)] >> bit_of(fact)) & 1 == 1
+        (self.words[place.word] >> place.bit) & 1 == 1
     }
 
-    fn set_bit(&mut self, fact: Fact)
-        requires { grid_takes fact ≡ true }
-        ensures { words_facts 0 self.new.words ≡ with_fact fact (words_facts 0 self.old.words) }
+    #[tactic(auto, using(crate::specs::Grids::grid_put))]
+    fn set(&mut self, place: Place)
+        ensures { words_facts 0 self.new.words ≡ with_fact (grid_fact place.word place.bit) (words_facts 0 self.old.words) }
     {
-        self.words[word_of(fact)] |= 1 << bit_of(fact);
+        self.words[place.word] |= 1 << place.bit;
     }
 
-    fn clear_bit(&mut self, fact: Fact)
-        requires { grid_takes fact ≡ true }
-        ensures { words_facts 0 self.new.words ≡ without_fact fact (words_facts 0 self.old.words) }
+    #[tactic(auto, using(crate::specs::Grids::grid_drop))]
+    fn clear(&mut self, place: Place)
+        ensures { words_facts 0 self.new.words ≡ without_fact (grid_fact place.word place.bit) (words_facts 0 self.old.words) }
     {
-        self.words[word_of(fact)] &= !(1 << bit_of(fact));
+        self.words[place.word] &= !(1 << place.bit);
     }
 
     /// The first fact of the start's relation at or after it, word by word from the start's key on.
     fn first_at(&self, start: Fact) -> Option<Fact>
         ensures { result ≡ first_from start (words_facts 0 self.now.words) }
     {
-        if start.relation > 15 || start.key > 63 {
+        if start.relation > LAST_RELATION {
             return None;
         }
+        let row = usize::from(start.relation) * 64;
+        // Stays: by `find_map` the result stayed open: std has no lemma that reads its clauses over a range.
         for key in start.key..64 {
-            let word = self.words[start.relation as usize * 64 + key as usize];
-            if let Some(bit) = first_bit(word, low_bit(start, key)) {
-                return Some(Fact {
-                    relation: start.relation,
-                    key,
-                    value: bit as i32,
-                });
+            if let Some(bit) = first_ahead(self.words[row + key as usize], start, key) {
+                return Some(Fact::new(start.relation, key, bit as i32));
             }
         }
         None
@@ -154,8 +155,9 @@ impl Store for GridStore {
         } };
 
     /// Reads one word.
+    #[tactic(auto, using(crate::specs::Grids::not_held))]
     fn contains(&self, fact: Fact) -> bool {
-        self.is_set(fact)
+        Place::of(fact).is_some_and(|place| self.is_set(place))
     }
 
     /// Counts the ones of the 1024 words.
@@ -184,22 +186,22 @@ impl Store for GridStore {
         ensures after { grid_meaning self.new.words ≡ after_put fact (grid_meaning self.old.words) }
         ensures room { result ≢ Err Full }
     {
-        if !self.takes_fact(fact) {
-            return Err(StoreFault::NotTaken);
-        }
-        if self.is_set(fact) {
+        let place = Place::of(fact).ok_or(StoreFault::NotTaken)?;
+        if self.is_set(place) {
             return Ok(false);
         }
-        self.set_bit(fact);
+        self.set(place);
         Ok(true)
     }
 
     /// Writes at most one word.
     fn drop_fact(&mut self, fact: Fact) -> bool {
-        if !self.is_set(fact) {
-            return false;
+        match Place::of(fact) {
+            Some(place) if self.is_set(place) => {
+                self.clear(place);
+                true
+            }
+            _ => false,
         }
-        self.clear_bit(fact);
-        true
     }
 }

@@ -1,15 +1,23 @@
 -- A fact's place in a rising list.
-use Rattle.std.specs.Prelude.{◌≡◌, ℕ, zero, suc, ◌<◌, ◌≤◌, true, false, cond, ◌||◌, List, [], ◌∷◌, length, Some, None, ◌==◌, slice_index_or, refl}
-use Rattle.std.proofs.Common.{sym, ap, subst, zero-le, suc-le-suc, le_of_suc-le-suc, not-suc-le-zero, arith}
+use Rattle.std.specs.Prelude.{◌≡◌, ℕ, zero, suc, ◌+◌, ◌<◌, ◌≤◌, true, false, cond, ◌||◌, List, [], ◌∷◌, length, None, Ok, Err, Result, MatchResult, ◌==◌, slice_index_or, refl}
+use Rattle.std.proofs.Common.{sym, ap, ◌∙◌, subst, ⊎_elim, zero-le, suc-le-suc, le_of_suc-le-suc, not-suc-le-zero, le_refl, arith}
 use Rattle.std.specs.List.{insert, remove, slice_get}
-use Rattle.std.proofs.lemmas.Bool.{and_parts, and_from, both_ways, or_from, or_left, or_right, and_right}
+use Rattle.std.specs.List.Sorted.{IsNonDecreasingBy, IsPartitionPoint, IsPartitionedBy, IsBinarySearchResult, IsSearchInRange}
+use Rattle.std.specs.declared.cmp.Ordering.{Ordering}
+use Rattle.std.specs.declared.cmp.Ordering.TheVariants.{Less, Equal, Greater}
+use Rattle.store.specs.contracts.facts.FactPartialOrd.TheImpl as FactPartialOrd
+use Rattle.std.specs.Ordering.{partial_lt, nat_cmp, int_cmp, is_lt, ordering_reverse, ordering_then, ordering_index}
+use Rattle.std.specs.Cmp.{IsTotalOrder}
+use Rattle.std.proofs.lemmas.Cmp.{nat_cmp_total, int_cmp_total, on_total, then_total}
+use Rattle.std.proofs.lemmas.List.Sorted.{searchable_from_sorted}
+use Rattle.std.proofs.lemmas.Bool.{and_parts, and_from, both_ways, or_from, or_left, or_right, and_right, cases_eq}
 use Rattle.std.proofs.lemmas.Bool.Decides.{nat_tests}
+use Rattle.std.proofs.lemmas.Int.{ints}
 use Rattle.store.specs.declared.facts.Fact.{Fact}
 use Rattle.store.specs.Facts.{before, same, before_all, rising, holds, with_fact, without_fact, at_or_after, first_from, in_range}
 use Rattle.liststore.specs.Places.{position, all_in_range, of_start, Place, FoundAt, AbsentAt}
-use Rattle.store.proofs.Walks.{none_some, some_none, some_is}
-use Rattle.store.proofs.Order.{before_trans, same_eq}
-use Rattle.store.proofs.Sets.{by_bool, after_not_same, otherwise_before, before_all_trans, absent_before_all, with_present, without_absent}
+use Rattle.store.proofs.Order.{before_irrefl, before_trans, before_connex, same_refl, same_eq}
+use Rattle.store.proofs.Sets.{by_bool, before_asym, before_not_same, after_not_same, otherwise_before, before_all_trans, absent_before_all, with_present, without_absent}
 
 pub position_le : (f : Fact) (xs : List Fact) → position f xs ≤ length xs
 position_le f [] = zero-le
@@ -54,24 +62,6 @@ without_at f (x ∷ xs) d r l e =
     let s : same f x ≡ true = rw k at e in
     let a : before_all f xs ≡ true = rw (same_eq f x s) (and_parts _ _ r).0 in
     rw (k, s) (without_absent f xs (absent_before_all f xs a)))
-
--- ---- the steps of a binary search
-
-pub position_above : (f : Fact) (xs : List Fact) (m : ℕ) (x : Fact) → rising xs ≡ true → m < length xs → x ≡ slice_index_or xs m x → before x f ≡ true → m < position f xs
-position_above f [] m x r l e h = absurd (not-suc-le-zero l)
-position_above f (y ∷ ys) zero x r l e h = let k : before y f ≡ true = rw e at h in rw k (suc-le-suc zero-le)
-position_above f (y ∷ ys) (suc m) x r l e h =
-    let l' : m < length ys = le_of_suc-le-suc l in
-    let above : before y x ≡ true = rw (sym e) at (before_all_getD y ys m x l' (and_parts _ _ r).0) in
-    let k : before y f ≡ true = before_trans y x f above h in
-    rw k (suc-le-suc (position_above f ys m x (and_parts _ _ r).1 l' e h))
-
-pub position_below : (f : Fact) (xs : List Fact) (m : ℕ) (x : Fact) → m < length xs → x ≡ slice_index_or xs m x → before x f ≡ false → position f xs ≤ m
-position_below f [] m x l e h = absurd (not-suc-le-zero l)
-position_below f (y ∷ ys) zero x l e h = let k : before y f ≡ false = rw e at h in rw k zero-le
-position_below f (y ∷ ys) (suc m) x l e h =
-    let rest = position_below f ys m x (le_of_suc-le-suc l) e h in
-    elim (before y f) as (λ b. cond b (suc (position f ys)) 0 ≤ suc m) [ true ↦ suc-le-suc rest | false ↦ zero-le ]
 
 -- ---- what an insertion and a removal keep
 
@@ -119,21 +109,6 @@ none_later s x (y ∷ ys) e q h =
 
 -- ---- what stands at a fact's place
 
-nth_within : (xs : List Fact) (n : ℕ) (x : Fact) → slice_get xs n ≡ Some x → n < length xs
-nth_within [] n x e = absurd (none_some x e)
-nth_within (y ∷ ys) zero x e = suc-le-suc zero-le
-nth_within (y ∷ ys) (suc n) x e = suc-le-suc (nth_within ys n x e)
-
-pub nth_is : (xs : List Fact) (n : ℕ) (x : Fact) → slice_get xs n ≡ Some x → x ≡ slice_index_or xs n x
-nth_is [] n x e = absurd (none_some x e)
-nth_is (y ∷ ys) zero x e = sym (some_is y x e)
-nth_is (y ∷ ys) (suc n) x e = nth_is ys n x e
-
-pub nth_none : (xs : List Fact) (n : ℕ) → slice_get xs n ≡ None → n < length xs → ⊥
-nth_none [] n e l = not-suc-le-zero l
-nth_none (y ∷ ys) zero e l = some_none y e
-nth_none (y ∷ ys) (suc n) e l = nth_none ys n e (le_of_suc-le-suc l)
-
 first_here : (s : Fact) (xs : List Fact) → rising xs ≡ true → first_from s xs ≡ of_start s (slice_get xs (position s xs))
 first_here s [] r = refl
 first_here s (x ∷ xs) r =
@@ -149,25 +124,89 @@ first_here s (x ∷ xs) r =
 pub place : (f : Fact) (xs : List Fact) (n : ℕ) → rising xs ≡ true → n ≡ position f xs → Place f xs n
 place f xs n r e = rw e (record { is = refl; first = first_here f xs r })
 
-pub found_at : (f : Fact) (xs : List Fact) (n : ℕ) (x : Fact) → rising xs ≡ true → n ≡ position f xs → slice_get xs n ≡ Some x → same f x ≡ true → FoundAt f xs n
-found_at f xs n x r e g s =
-    let g' : slice_get xs (position f xs) ≡ Some x = rw e at g in
-    let l : position f xs < length xs = nth_within xs (position f xs) x g' in
-    let s' : same f (slice_index_or xs (position f xs) x) ≡ true = subst (λ (y : Fact). same f y ≡ true) (nth_is xs (position f xs) x g') s in
-    let h = holds_at f xs x l s' in
-    rw e (record {
-      within = l;
+-- ---- what the library's searches answer
+
+rising_at : (xs : List Fact) (i j : ℕ) (d : Fact) → rising xs ≡ true → i < j → j < length xs → before (slice_index_or xs i d) (slice_index_or xs j d) ≡ true
+rising_at [] i j d r l h = absurd (not-suc-le-zero h)
+rising_at (x ∷ xs) i zero d r l h = absurd (not-suc-le-zero l)
+rising_at (x ∷ xs) zero (suc j) d r l h = before_all_getD x xs j d (le_of_suc-le-suc h) (and_parts _ _ r).0
+rising_at (x ∷ xs) (suc i) (suc j) d r l h = rising_at xs i j d (and_parts _ _ r).1 (le_of_suc-le-suc l) (le_of_suc-le-suc h)
+
+-- the facts below i come before f, and the one at i does not
+position_at : (f : Fact) (xs : List Fact) (i : ℕ) → i ≤ length xs → ((k : ℕ) → k < i → before (slice_index_or xs k f) f ≡ true) → (i < length xs → before (slice_index_or xs i f) f ≡ false) → i ≡ position f xs
+position_at f [] i l low high = omega arith
+position_at f (x ∷ xs) zero l low high = let n : before x f ≡ false = high (suc-le-suc zero-le) in rw n
+position_at f (x ∷ xs) (suc i) l low high =
+    let k : before x f ≡ true = low 0 (suc-le-suc zero-le) in
+    rw k (ap suc (position_at f xs i (le_of_suc-le-suc l) (λ k h. low (suc k) (suc-le-suc h)) (λ h. high (suc-le-suc h))))
+
+pub partitioned : (f : Fact) (xs : List Fact) → rising xs ≡ true → IsPartitionedBy (λ y. before y f) xs
+partitioned f xs r i j d l h e =
+    ⊎_elim (λ q. rw q e) (λ n. before_trans _ _ f (rising_at xs i j d r (grind arith) h) e) (cases_eq i j)
+
+pub place_of_point : (f : Fact) (xs : List Fact) (i : ℕ) → rising xs ≡ true → i ≤ length xs → IsPartitionPoint (λ y. before y f ≡ true) (λ y. before y f ≡ false) xs i → Place f xs i
+place_of_point f xs i r l p = place f xs i r (position_at f xs i l (λ k h. p.0 k f zero-le h) (λ h. p.1 i f (le_refl i) h))
+
+-- the order that `Fact` derives
+abbrev pub fact_cmp : Fact → Fact → Ordering
+fact_cmp a b = ordering_then (nat_cmp a.relation b.relation) (ordering_then (nat_cmp a.key b.key) (int_cmp a.value b.value))
+
+fact_cmp_total : IsTotalOrder fact_cmp
+fact_cmp_total = then_total (on_total (λ (x : Fact). x.relation) nat_cmp_total) (then_total (on_total (λ (x : Fact). x.key) nat_cmp_total) (on_total (λ (x : Fact). x.value) int_cmp_total))
+
+is_lt_before : (a b : Fact) → is_lt (fact_cmp a b) ≡ before a b
+unfolding before
+is_lt_before a b = grind (arith, nat_tests, ints)
+
+pub lt_before : (a b : Fact) → partial_lt FactPartialOrd.partial_cmp-value.it a b ≡ before a b
+unfolding before
+lt_before a b = grind (arith, nat_tests, ints)
+
+less_before : (a b : Fact) → fact_cmp a b ≡ Less → before a b ≡ true
+less_before a b e = sym (is_lt_before a b) ∙ ap is_lt e
+
+greater_before : (a b : Fact) → fact_cmp a b ≡ Greater → before b a ≡ true
+greater_before a b e = sym (is_lt_before b a) ∙ ap is_lt (fact_cmp_total.antisymm b a ∙ ap ordering_reverse e)
+
+equal_is : (a b : Fact) → fact_cmp a b ≡ Equal → a ≡ b
+equal_is a b e =
+    before_connex a b (sym (is_lt_before a b) ∙ ap is_lt e)
+    (sym (is_lt_before b a) ∙ ap is_lt (fact_cmp_total.antisymm b a ∙ ap ordering_reverse e))
+
+searchable : (f : Fact) (xs : List Fact) → rising xs ≡ true → IsNonDecreasingBy (λ y. ordering_index (fact_cmp y f)) xs
+searchable f xs r =
+    searchable_from_sorted fact_cmp_total (λ x. x) xs f
+    (λ k d _ h. is_lt_before _ _ ∙ before_asym _ _ (rising_at xs k (k + 1) d r (omega arith) h))
+
+found_at : (f : Fact) (xs : List Fact) (n : ℕ) → rising xs ≡ true → n < length xs → slice_index_or xs n f ≡ f → FoundAt f xs n
+found_at f xs n r l e =
+    let p : n ≡ position f xs = position_at f xs n (omega arith)
+    (λ k h. subst (λ (x : Fact). before (slice_index_or xs k f) x ≡ true) e (rising_at xs k n f r h l))
+    (λ _. subst (λ (x : Fact). before x f ≡ false) (sym e) (before_irrefl f)) in
+    let l' : position f xs < length xs = rw p at l in
+    let s : same f (slice_index_or xs (position f xs) f) ≡ true = rw p at (subst (λ (x : Fact). same f x ≡ true) (sym e) (same_refl f)) in
+    let h = holds_at f xs f l' s in
+    rw p (record {
+      within = l';
       held = h;
       stays = with_present f xs r h;
-      out = without_at f xs x r l s';
+      out = without_at f xs f r l' s;
     })
 
-pub absent_here : (f : Fact) (xs : List Fact) (n : ℕ) (d : Fact) → rising xs ≡ true → n ≡ position f xs → (n < length xs → same f (slice_index_or xs n d) ≡ false) → AbsentAt f xs n
-absent_here f xs n d r e s =
-    let h = absent_at f xs d r (rw e at s) in
-    rw e (record {
+absent_at_place : (f : Fact) (xs : List Fact) (n : ℕ) → rising xs ≡ true → n ≤ length xs → IsPartitionPoint (λ y. fact_cmp y f ≡ Less) (λ y. fact_cmp y f ≡ Greater) xs n → AbsentAt f xs n
+absent_at_place f xs n r l at =
+    let after : n < length xs → before f (slice_index_or xs n f) ≡ true = λ h. greater_before _ f (at.1 n f (le_refl n) h) in
+    let p : n ≡ position f xs = position_at f xs n l (λ k h. less_before _ f (at.0 k f zero-le h)) (λ h. before_asym f _ (after h)) in
+    let other : n < length xs → same f (slice_index_or xs n f) ≡ false = λ h. before_not_same f _ (after h) in
+    let s : position f xs < length xs → same f (slice_index_or xs (position f xs) f) ≡ false = rw p at other in
+    let h = absent_at f xs f r s in
+    rw p (record {
       within = position_le f xs;
       missing = h;
       stays = without_absent f xs h;
-      into = with_absent f xs d (rw e at s);
+      into = with_absent f xs f s;
     })
+
+pub searched : (f : Fact) (xs : List Fact) (r : Result ℕ ℕ) → rising xs ≡ true → IsSearchInRange r (length xs) → IsBinarySearchResult (λ y. fact_cmp y f) xs r → MatchResult r (FoundAt f xs) (AbsentAt f xs)
+searched f xs (Ok n) r l at = found_at f xs n r l (equal_is _ f (at f))
+searched f xs (Err n) r l at = absent_at_place f xs n r l (at (searchable f xs r))

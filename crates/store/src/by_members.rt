@@ -6,6 +6,7 @@ use crate::facts::Fact;
 use crate::stores::{Store, StoreFault};
 
 /// Adds the fact and answers whether it was absent.
+#[tactic(auto, using(crate::proofs::Theorems::put_result))]
 pub fn put<S: Store>(store: &mut S, fact: Fact) -> Result<bool, StoreFault>
     ensures { PutResult fact (S.meaning store.old) (S.meaning store.new) result }
 {
@@ -20,6 +21,7 @@ pub fn drop_fact<S: Store>(store: &mut S, fact: Fact) -> bool
 }
 
 /// The first fact of the start's relation at or after the start.
+#[tactic(auto, using(crate::proofs::Theorems::walk_result))]
 pub fn walk<S: Store>(store: &S, start: Fact) -> Option<Fact>
     ensures { WalkResult start (S.meaning store.now).facts result }
 {

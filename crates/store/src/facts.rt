@@ -1,10 +1,18 @@
 //! One fact: a relation, a key and a value. Each call here takes constant time.
 ghost use Rattle.std.specs.Prelude.{◌≡◌};
-ghost use Rattle.store.specs.Facts.{before, same, in_range, least_of, past, value_in, StrictTotalOrder, Equality};
+ghost use Rattle.store.specs.Facts.{before, same, in_range, fact_of, least_of, past, value_in, StrictTotalOrder, Equality};
+
+const LAST_RELATION: u8 = 15;
+
+const LAST_KEY: u32 = 65_535;
+
+const FARTHEST_VALUE: i32 = 1_000_000_000;
 
 /// A fact in range has a relation up to 15, a key up to 65,535 and a value between -1,000,000,000 and
 /// 1,000,000,000. The types are wider, so that a call can be asked about a fact that is out of range.
-#[derive(Clone, Copy)]
+///
+/// Facts are ordered by relation, then by key, then by value.
+#[derive(Clone, Copy, Debug, PartialEq, Eq, PartialOrd, Ord)]
 pub struct Fact {
     pub relation: u8,
     pub key: u32,
@@ -12,64 +20,65 @@ pub struct Fact {
 }
 
 /// Whether `a` comes before `b`: by relation, then by key, then by value.
+#[tactic(auto, unfolding(crate::specs::Facts::before), using(crate::proofs::Order::order))]
+// Stays: a published function, whose contract also says that the derived order is strict and total.
 pub fn is_before(a: Fact, b: Fact) -> bool
     ensures answer { result ≡ before a b }
     ensures order { StrictTotalOrder before }
 {
-    if a.relation != b.relation {
-        return a.relation < b.relation;
-    }
-    if a.key != b.key {
-        return a.key < b.key;
-    }
-    a.value < b.value
+    a < b
 }
 
+#[tactic(auto, unfolding(crate::specs::Facts::same), using(crate::proofs::Order::equality))]
+// Stays: a published function, whose contract also says that the derived equality is one.
 pub fn is_same(a: Fact, b: Fact) -> bool
     ensures answer { result ≡ same a b }
     ensures equality { Equality same }
 {
-    if a.relation != b.relation || a.key != b.key {
-        return false;
-    }
-    a.value <= b.value && b.value <= a.value
+    a == b
 }
 
+#[tactic(auto, unfolding(crate::specs::Facts::in_range, crate::specs::Facts::value_in))]
 pub fn is_in_range(a: Fact) -> bool
     ensures { result ≡ in_range a }
 {
-    if a.relation > 15 || a.key > 65_535 {
-        return false;
-    }
-    -1_000_000_000 <= a.value && a.value <= 1_000_000_000
+    a.relation <= LAST_RELATION && a.key <= LAST_KEY && a.value_in(-FARTHEST_VALUE, FARTHEST_VALUE)
 }
 
 impl Fact {
-    /// Where a walk through a relation begins.
-    pub fn least_of(relation: u8) -> Fact
-        ensures { result ≡ least_of relation }
+    pub fn new(relation: u8, key: u32, value: i32) -> Fact
+        ensures { result ≡ fact_of relation key value }
     {
         Fact {
             relation,
-            key: 0,
-            value: i32::MIN,
+            key,
+            value,
         }
     }
 
+    /// Where a walk through a relation begins.
+    #[tactic(auto, unfolding(crate::specs::Facts::least_of))]
+    pub fn least_of(relation: u8) -> Fact
+        ensures { result ≡ least_of relation }
+    {
+        Fact::new(relation, 0, i32::MIN)
+    }
+
     /// Where a walk goes on after this fact: the next value, or this one where the type has no greater.
+    #[tactic(auto, unfolding(crate::specs::Facts::past))]
     pub fn past(self) -> Fact
         ensures { result ≡ past self }
     {
         Fact {
-            relation: self.relation,
-            key: self.key,
             value: self.value.saturating_add(1),
+            ..self
         }
     }
 
+    #[tactic(auto, unfolding(crate::specs::Facts::value_in))]
     pub fn value_in(self, low: i32, high: i32) -> bool
         ensures { result ≡ value_in low high self }
     {
-        low <= self.value && self.value <= high
+        (low..=high).contains(&self.value)
     }
 }

@@ -1,96 +1,83 @@
 //! A grid with every bit set, and a list store with every place used.
 use gridstore::GridStore;
 use liststore::ListStore;
-use store::{Fact, Store};
+use store::{Fact, Store, StoreFault};
 
-fn put_number<S: Store>(store: &mut S, fact: Fact) -> u8 {
-    match store.put(fact) {
-        Ok(true) => 1,
-        Ok(false) => 0,
-        Err(fault) => fault.number(),
-    }
+/// A put's answer as it is printed: 1 or 0, or the number of a refusal.
+fn number(put: Result<bool, StoreFault>) -> u8 {
+    put.map_or_else(StoreFault::number, u8::from)
 }
 
-fn fact_of(relation: u8, key: u32, value: i32) -> Fact {
-    Fact {
-        relation,
-        key,
-        value,
-    }
-}
-
-/// Puts each fact that a grid takes, and answers how often the answer's number was `number`.
-fn put_each<S: Store>(store: &mut S, number: u8) -> u32 {
+/// How many of the facts that a grid takes pass the test.
+// Stays: in a chain over three ranges the inner closures could not all hold the test by &mut.
+fn count_taken<F: FnMut(Fact) -> bool>(mut test: F) -> u32
+    requires { F.IsAlwaysCallable test }
+{
     let mut times: u32 = 0;
     for relation in 0..16 {
         for key in 0..64 {
             for value in 0..64 {
-                if put_number(store, fact_of(relation, key, value)) == number {
-                    times = times.saturating_add(1);
-                }
+                times = times.saturating_add(u32::from(test(Fact::new(relation, key, value))));
             }
         }
     }
     times
 }
 
-/// Walks from each fact that a grid takes, and answers how often the walk met that fact.
-fn meet_each<S: Store>(store: &S) -> u32 {
-    let mut times: u32 = 0;
-    for relation in 0..16 {
-        for key in 0..64 {
-            for value in 0..64 {
-                if let Some(met) = store.walk(fact_of(relation, key, value)) {
-                    if met.relation == relation && met.key == key && met.value == value {
-                        times = times.saturating_add(1);
-                    }
-                }
-            }
-        }
+/// A store that is filled, with the name that is printed for it.
+#[derive(Drop)]
+struct Filled<'a, S> {
+    name: &'a str,
+    store: &'a mut S,
+}
+
+impl<S: Store> Filled<'_, S> {
+    /// Sets every bit.
+    fn fill(&mut self, rt: &HostRuntime) -> anyhow::Result<()> {
+        let name = self.name;
+        let added = count_taken(|fact| self.store.put(fact) == Ok(true));
+        let count = self.store.count();
+        let met = count_taken(|fact| self.store.walk(fact) == Some(fact));
+        let present = count_taken(|fact| self.store.put(fact) == Ok(false));
+        println!(rt;
+            "{name} filled: put 1: {added}, count: {count}, walk met: {met}, put 0: {present}"
+        )?;
+        Ok(())
     }
-    times
-}
 
-/// Sets every bit.
-fn fill<S: Store>(rt: &HostRuntime, name: &str, store: &mut S) -> anyhow::Result<()> {
-    let added = put_each(store, 1);
-    let count = store.count();
-    let met = meet_each(store);
-    let present = put_each(store, 0);
-    println!(rt;
-        "{name} filled: put 1: {added}, count: {count}, walk met: {met}, put 0: {present}"
-    )?;
-    Ok(())
-}
+    /// Puts facts that a full store has, and facts beside them that it may not take.
+    fn probe(&mut self, rt: &HostRuntime) -> anyhow::Result<()> {
+        let name = self.name;
+        let last = number(self.store.put(Fact::new(15, 63, 63)));
+        let beyond = number(self.store.put(Fact::new(15, 64, 63)));
+        let lower = number(self.store.put(Fact::new(15, 63, -1)));
+        println!(rt;
+            "{name} full: put key 63: {last}, put key 64: {beyond}, put value -1: {lower}"
+        )?;
+        Ok(())
+    }
 
-/// Puts facts that a full store has, and facts beside them that it may not take.
-fn probe<S: Store>(rt: &HostRuntime, name: &str, store: &mut S) -> anyhow::Result<()> {
-    let last = put_number(store, fact_of(15, 63, 63));
-    let beyond = put_number(store, fact_of(15, 64, 63));
-    let lower = put_number(store, fact_of(15, 63, -1));
-    println!(rt; "{name} full: put key 63: {last}, put key 64: {beyond}, put value -1: {lower}")?;
-    Ok(())
-}
+    /// Makes one place free and fills it again.
+    fn refill(&mut self, rt: &HostRuntime) -> anyhow::Result<()> {
+        let name = self.name;
+        let dropped = self.store.drop_fact(Fact::new(7, 31, 32));
+        let again = number(self.store.put(Fact::new(7, 31, 32)));
+        let count = self.store.count();
+        println!(rt; "{name} full: drop: {dropped}, put: {again}, count: {count}")?;
+        Ok(())
+    }
 
-/// Makes one place free and fills it again.
-fn refill<S: Store>(rt: &HostRuntime, name: &str, store: &mut S) -> anyhow::Result<()> {
-    let dropped = store.drop_fact(fact_of(7, 31, 32));
-    let again = put_number(store, fact_of(7, 31, 32));
-    let count = store.count();
-    println!(rt; "{name} full: drop: {dropped}, put: {again}, count: {count}")?;
-    Ok(())
-}
-
-fn fill_and_probe<S: Store>(rt: &HostRuntime, name: &str, store: &mut S) -> anyhow::Result<()> {
-    fill(rt, name, store)?;
-    probe(rt, name, store)?;
-    refill(rt, name, store)
+    fn play(&mut self, rt: &HostRuntime) -> anyhow::Result<()> {
+        self.fill(rt)?;
+        self.probe(rt)?;
+        self.refill(rt)
+    }
 }
 
 fn empty_grid(rt: &HostRuntime, grid: &mut GridStore) -> anyhow::Result<()> {
-    let taken = put_number(grid, fact_of(0, 63, 0));
-    let refused = put_number(grid, fact_of(0, 64, 0));
-    let dropped = grid.drop_fact(fact_of(0, 63, 0));
+    let taken = number(grid.put(Fact::new(0, 63, 0)));
+    let refused = number(grid.put(Fact::new(0, 64, 0)));
+    let dropped = grid.drop_fact(Fact::new(0, 63, 0));
     println!(rt; "grid empty: put key 63: {taken}, put key 64: {refused}, drop key 63: {dropped}")?;
     Ok(())
 }
@@ -98,7 +85,15 @@ fn empty_grid(rt: &HostRuntime, grid: &mut GridStore) -> anyhow::Result<()> {
 pub fn run(rt: &HostRuntime) -> anyhow::Result<()> {
     let mut grid = GridStore::new();
     empty_grid(rt, &mut grid)?;
-    fill_and_probe(rt, "grid", &mut grid)?;
+    let mut filled = Filled {
+        name: "grid",
+        store: &mut grid,
+    };
+    filled.play(rt)?;
     let mut list = ListStore::new(rt.alloc(), 65_536)?;
-    fill_and_probe(rt, "list of 65536", &mut list)
+    let mut filled = Filled {
+        name: "list of 65536",
+        store: &mut list,
+    };
+    filled.play(rt)
 }

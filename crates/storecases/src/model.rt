@@ -1,22 +1,14 @@
 //! A set of facts kept the plainest way, to hold the stores to: facts in no order, looked through one by one.
 use std::alloc::{AllocError, Global};
-use store::Fact;
+use std::ops::RangeInclusive;
+use store::{Fact, StoreFault};
 
 #[derive(Drop)]
 pub struct Model {
     members: Vec<Fact>,
     places: usize,
-    greatest_key: u32,
-    least_value: i32,
-    greatest_value: i32,
-}
-
-fn equal(a: Fact, b: Fact) -> bool {
-    a.relation == b.relation && a.key == b.key && a.value == b.value
-}
-
-fn earlier(a: Fact, b: Fact) -> bool {
-    a.key < b.key || (a.key == b.key && a.value < b.value)
+    keys: RangeInclusive<u32>,
+    values: RangeInclusive<i32>,
 }
 
 impl Model {
@@ -25,9 +17,8 @@ impl Model {
         Model {
             members: Vec::new(heap),
             places,
-            greatest_key: 65_535,
-            least_value: -1_000_000_000,
-            greatest_value: 1_000_000_000,
+            keys: 0..=65_535,
+            values: -1_000_000_000..=1_000_000_000,
         }
     }
 
@@ -36,17 +27,13 @@ impl Model {
         Model {
             members: Vec::new(heap),
             places: 65_536,
-            greatest_key: 63,
-            least_value: 0,
-            greatest_value: 63,
+            keys: 0..=63,
+            values: 0..=63,
         }
     }
 
     pub fn takes(&self, fact: Fact) -> bool {
-        fact.relation < 16
-            && fact.key <= self.greatest_key
-            && fact.value >= self.least_value
-            && fact.value <= self.greatest_value
+        fact.relation < 16 && self.keys.contains(&fact.key) && self.values.contains(&fact.value)
     }
 
     pub fn places(&self) -> usize {
@@ -57,54 +44,39 @@ impl Model {
         self.members.len()
     }
 
-    fn index_of(&self, fact: Fact) -> Option<usize> {
-        for (i, member) in self.members.iter().enumerate() {
-            if equal(*member, fact) {
-                return Some(i);
-            }
-        }
-        None
-    }
-
     pub fn contains(&self, fact: Fact) -> bool {
-        self.index_of(fact).is_some()
+        self.members.contains(&fact)
     }
 
-    /// The answer's number: 1 or 0, or the number of a refusal.
-    pub fn put(&mut self, fact: Fact) -> Result<u8, AllocError> {
+    /// Whether the fact was absent, or why it is refused.
+    pub fn put(&mut self, fact: Fact) -> Result<Result<bool, StoreFault>, AllocError> {
         if !self.takes(fact) {
-            return Ok(31);
+            return Ok(Err(StoreFault::NotTaken));
         }
         if self.contains(fact) {
-            return Ok(0);
+            return Ok(Ok(false));
         }
-        if self.members.len() == self.places {
-            return Ok(58);
+        if self.count() == self.places {
+            return Ok(Err(StoreFault::Full));
         }
         self.members.push(fact)?;
-        Ok(1)
+        Ok(Ok(true))
     }
 
-    pub fn drop_fact(&mut self, fact: Fact) -> u8 {
-        let Some(i) = self.index_of(fact) else {
-            return 0;
+    /// Whether the fact was present.
+    pub fn drop_fact(&mut self, fact: Fact) -> bool {
+        let Some(i) = self.members.iter().position(|member| *member == fact) else {
+            return false;
         };
-        if i < self.members.len() {
-            self.members.remove(i);
-        }
-        1
+        self.members.remove(i);
+        true
     }
 
     pub fn walk(&self, start: Fact) -> Option<Fact> {
-        let mut best: Option<Fact> = None;
-        for member in self.members.iter() {
-            if member.relation == start.relation && !earlier(*member, start) {
-                best = match best {
-                    Some(found) if !earlier(*member, found) => Some(found),
-                    _ => Some(*member),
-                };
-            }
-        }
-        best
+        self.members
+            .iter()
+            .copied()
+            .filter(|member| member.relation == start.relation && *member >= start)
+            .min()
     }
 }

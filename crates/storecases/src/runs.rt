@@ -1,9 +1,10 @@
 //! The comparisons: each store alone, then both side by side.
 use crate::model::Model;
 use crate::slot::SlotStore;
+use crate::steps::{Answer, Step, Tables};
 use crate::tally::Tally;
 use crate::{full, steps};
-use anyhow::anyhow;
+use anyhow::ensure;
 use gridstore::GridStore;
 use liststore::ListStore;
 use random::Generator;
@@ -36,19 +37,38 @@ const SHARED_KEYS: [u32; 5] = [0, 1, 31, 62, 63];
 
 const SHARED_VALUES: [i32; 6] = [0, 1, 2, 32, 62, 63];
 
-/// Random calls on one store and on the model.
-fn alone<S: Store>(store: &mut S, model: &mut Model, relations: usize) -> anyhow::Result<Tally> {
-    let mut generator = Generator::new(20_240_601);
-    let mut tally = Tally::new();
+/// Random calls on the model, whose answers go to `check` beside the calls.
+fn compare<F: FnMut(Step, Answer) -> anyhow::Result<()>>(
+    seed: u64,
+    tables: Tables,
+    model: &mut Model,
+    mut check: F,
+) -> anyhow::Result<Tally>
+    requires { F.IsAlwaysCallable check }
+{
+    let mut generator = Generator::new(seed);
+    let mut tally = Tally::default();
     for _ in 0..STEPS {
-        let step = steps::random_step(&mut generator, relations, &KEYS, &VALUES);
+        let step = steps::random_step(&mut generator, tables);
         let expected = steps::expect(model, step)?;
-        if !steps::agree(steps::play(store, step), expected) {
-            return Err(anyhow!("the store and the model differ"));
-        }
-        tally.note(step.call, expected);
+        check(step, expected)?;
+        tally.note(expected);
     }
     Ok(tally)
+}
+
+/// The calls on one store and on the model.
+fn alone<S: Store>(store: &mut S, model: &mut Model, relations: usize) -> anyhow::Result<Tally> {
+    let tables = Tables {
+        relations,
+        keys: &KEYS,
+        values: &VALUES,
+    };
+    compare(20_240_601, tables, model, |step, expected| {
+        let found = steps::play(store, step);
+        ensure!(found == expected, "the store and the model differ");
+        Ok(())
+    })
 }
 
 /// The same calls on two stores and on the model, with facts that both stores take.
@@ -57,20 +77,18 @@ fn side_by_side<S: Store, T: Store>(
     second: &mut T,
     model: &mut Model,
 ) -> anyhow::Result<Tally> {
-    let mut generator = Generator::new(7);
-    let mut tally = Tally::new();
-    for _ in 0..STEPS {
-        let step = steps::random_step(&mut generator, 16, &SHARED_KEYS, &SHARED_VALUES);
-        let expected = steps::expect(model, step)?;
-        if !steps::agree(steps::play(first, step), expected) {
-            return Err(anyhow!("the first store and the model differ"));
-        }
-        if !steps::agree(steps::play(second, step), expected) {
-            return Err(anyhow!("the second store and the model differ"));
-        }
-        tally.note(step.call, expected);
-    }
-    Ok(tally)
+    let tables = Tables {
+        relations: 16,
+        keys: &SHARED_KEYS,
+        values: &SHARED_VALUES,
+    };
+    compare(7, tables, model, |step, expected| {
+        let found = steps::play(first, step);
+        ensure!(found == expected, "the first store and the model differ");
+        let found = steps::play(second, step);
+        ensure!(found == expected, "the second store and the model differ");
+        Ok(())
+    })
 }
 
 fn list_alone(rt: &HostRuntime, places: usize, relations: usize) -> anyhow::Result<()> {

@@ -5,7 +5,7 @@ ghost use Rattle.store.specs.Stores.{empty};
 ghost use Rattle.storecases.specs.Slots.{slot_meaning, slot_ranged};
 ghost use Rattle.storecases.specs.SlotsLemmas.{slot_lawful};
 
-use store::{Fact, Store, StoreFault, is_before, is_in_range, is_same};
+use store::{Fact, Store, StoreFault, is_in_range};
 
 #[derive(Drop)]
 pub struct SlotStore {
@@ -26,18 +26,13 @@ impl Store for SlotStore {
 
     ghost lawful = { λ s. slot_lawful s.held s.ranged };
 
+    #[tactic(auto, unfolding(store::specs::Facts::same))]
     fn contains(&self, fact: Fact) -> bool {
-        let Some(held) = self.held else {
-            return false;
-        };
-        is_same(fact, held)
+        self.held == Some(fact)
     }
 
     fn count(&self) -> usize {
-        match self.held {
-            Some(_) => 1,
-            None => 0,
-        }
+        usize::from(self.held.is_some())
     }
 
     fn takes_fact(&self, fact: Fact) -> bool {
@@ -48,12 +43,10 @@ impl Store for SlotStore {
         1
     }
 
+    #[tactic(auto, unfolding(store::specs::Facts::at_or_after, store::specs::Facts::before))]
     fn walk(&self, start: Fact) -> Option<Fact> {
-        let held = self.held?;
-        if held.relation != start.relation || is_before(held, start) {
-            return None;
-        }
-        Some(held)
+        self.held
+            .filter(|held| held.relation == start.relation && *held >= start)
     }
 
     fn put(&mut self, fact: Fact) -> Result<bool, StoreFault> {

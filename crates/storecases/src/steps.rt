@@ -1,8 +1,8 @@
-//! One call of a store, its answer in plain numbers, and the answers of the questions after it.
+//! One call of a store, what it came to, and the answers of the questions after it.
 use crate::model::Model;
 use random::Generator;
 use std::alloc::AllocError;
-use store::{Fact, Store};
+use store::{Fact, Store, StoreFault};
 
 #[derive(Clone, Copy)]
 pub enum Call {
@@ -17,67 +17,67 @@ pub struct Step {
     pub fact: Fact,
 }
 
-#[derive(Clone, Copy)]
+/// What a call came to: the method's own answer.
+#[derive(Clone, Copy, PartialEq, Eq)]
+pub enum Outcome {
+    Put(Result<bool, StoreFault>),
+    Dropped(bool),
+    Walked(Option<Fact>),
+}
+
+// Stays: `contains` and `takes` stand beside nothing: they are the answers of two questions.
+#[derive(Clone, Copy, PartialEq, Eq)]
 pub struct Answer {
-    // 1 or 0, or the number of a refusal; for a walk, whether it met a fact
-    pub number: u8,
-    pub met: Fact,
+    pub outcome: Outcome,
     pub contains: bool,
     pub count: usize,
     pub takes: bool,
     pub capacity: usize,
 }
 
-/// Half of the calls are puts, a quarter drops, a quarter walks. The fact is put together from the tables.
-pub fn random_step(
-    generator: &mut Generator,
-    relations: usize,
-    keys: &[u32],
-    values: &[i32],
-) -> Step {
+/// What facts are put together from.
+// Stays: keys and values are no pairs: any key is drawn with any value.
+#[derive(Clone, Copy)]
+pub struct Tables<'a> {
+    pub relations: usize,
+    pub keys: &'a [u32],
+    pub values: &'a [i32],
+}
+
+/// One of the items, or the default of no items.
+fn pick<T: Copy + Default>(generator: &mut Generator, items: &[T]) -> T {
+    items
+        .get(generator.below(items.len()))
+        .copied()
+        .unwrap_or_default()
+}
+
+/// Half of the calls are puts, a quarter drops, a quarter walks.
+pub fn random_step(generator: &mut Generator, tables: Tables) -> Step {
     let call = match generator.below(4) {
         0 | 1 => Call::Put,
         2 => Call::Drop,
         _ => Call::Walk,
     };
-    let relation = (generator.below(relations) & 0xff) as u8;
-    let key = keys.get(generator.below(keys.len())).copied().unwrap_or(0);
-    let value = values
-        .get(generator.below(values.len()))
-        .copied()
-        .unwrap_or(0);
+    let relation = (generator.below(tables.relations) & 0xff) as u8;
+    let key = pick(generator, tables.keys);
+    let value = pick(generator, tables.values);
     Step {
         call,
-        fact: Fact {
-            relation,
-            key,
-            value,
-        },
+        fact: Fact::new(relation, key, value),
     }
 }
 
-/// A walk's answer as a number and a fact.
-fn met_or(found: Option<Fact>, start: Fact) -> (u8, Fact) {
-    match found {
-        Some(fact) => (1, fact),
-        None => (0, start),
-    }
-}
-
+// Stays: a call is data, drawn at random, which a store and the model are both given.
 pub fn play<S: Store>(store: &mut S, step: Step) -> Answer {
     let fact = step.fact;
-    let (number, met) = match step.call {
-        Call::Put => match store.put(fact) {
-            Ok(true) => (1, fact),
-            Ok(false) => (0, fact),
-            Err(fault) => (fault.number(), fact),
-        },
-        Call::Drop => (u8::from(store.drop_fact(fact)), fact),
-        Call::Walk => met_or(store.walk(fact), fact),
+    let outcome = match step.call {
+        Call::Put => Outcome::Put(store.put(fact)),
+        Call::Drop => Outcome::Dropped(store.drop_fact(fact)),
+        Call::Walk => Outcome::Walked(store.walk(fact)),
     };
     Answer {
-        number,
-        met,
+        outcome,
         contains: store.contains(fact),
         count: store.count(),
         takes: store.takes_fact(fact),
@@ -85,30 +85,20 @@ pub fn play<S: Store>(store: &mut S, step: Step) -> Answer {
     }
 }
 
+/// What the model says of the step; its memory may run out.
+// Stays: the model is no store, whose laws are what is tested, so `play` cannot serve both.
 pub fn expect(model: &mut Model, step: Step) -> Result<Answer, AllocError> {
     let fact = step.fact;
-    let (number, met) = match step.call {
-        Call::Put => (model.put(fact)?, fact),
-        Call::Drop => (model.drop_fact(fact), fact),
-        Call::Walk => met_or(model.walk(fact), fact),
+    let outcome = match step.call {
+        Call::Put => Outcome::Put(model.put(fact)?),
+        Call::Drop => Outcome::Dropped(model.drop_fact(fact)),
+        Call::Walk => Outcome::Walked(model.walk(fact)),
     };
     Ok(Answer {
-        number,
-        met,
+        outcome,
         contains: model.contains(fact),
         count: model.count(),
         takes: model.takes(fact),
         capacity: model.places(),
     })
-}
-
-pub fn agree(a: Answer, b: Answer) -> bool {
-    a.number == b.number
-        && a.met.relation == b.met.relation
-        && a.met.key == b.met.key
-        && a.met.value == b.met.value
-        && a.contains == b.contains
-        && a.count == b.count
-        && a.takes == b.takes
-        && a.capacity == b.capacity
 }

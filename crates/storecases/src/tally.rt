@@ -1,8 +1,9 @@
 //! How many answers of each kind were compared.
-use crate::steps::{Answer, Call};
+use crate::steps::{Answer, Outcome};
 use std::fmt;
+use store::StoreFault;
 
-#[derive(Drop)]
+#[derive(Clone, Copy, Default)]
 pub struct Tally {
     added: u32,
     present: u32,
@@ -16,54 +17,34 @@ pub struct Tally {
 }
 
 impl Tally {
-    pub fn new() -> Tally {
-        Tally {
-            added: 0,
-            present: 0,
-            not_taken: 0,
-            full: 0,
-            dropped: 0,
-            absent: 0,
-            met: 0,
-            ended: 0,
-            greatest_count: 0,
-        }
-    }
-
-    pub fn note(&mut self, call: Call, answer: Answer) {
-        match (call, answer.number) {
-            (Call::Put, 1) => self.added = self.added.saturating_add(1),
-            (Call::Put, 0) => self.present = self.present.saturating_add(1),
-            (Call::Put, 31) => self.not_taken = self.not_taken.saturating_add(1),
-            (Call::Put, _) => self.full = self.full.saturating_add(1),
-            (Call::Drop, 1) => self.dropped = self.dropped.saturating_add(1),
-            (Call::Drop, _) => self.absent = self.absent.saturating_add(1),
-            (Call::Walk, 1) => self.met = self.met.saturating_add(1),
-            (Call::Walk, _) => self.ended = self.ended.saturating_add(1),
-        }
+    pub fn note(&mut self, answer: Answer) {
+        let times = match answer.outcome {
+            Outcome::Put(Ok(true)) => &mut self.added,
+            Outcome::Put(Ok(false)) => &mut self.present,
+            Outcome::Put(Err(StoreFault::NotTaken)) => &mut self.not_taken,
+            Outcome::Put(Err(StoreFault::Full)) => &mut self.full,
+            Outcome::Dropped(true) => &mut self.dropped,
+            Outcome::Dropped(false) => &mut self.absent,
+            Outcome::Walked(Some(_)) => &mut self.met,
+            Outcome::Walked(None) => &mut self.ended,
+        };
+        *times = times.saturating_add(1);
         self.greatest_count = self.greatest_count.max(answer.count);
     }
 }
 
 impl fmt::Display for Tally {
     fn fmt<W: fmt::Write>(&self, f: &mut fmt::Formatter<W>) -> fmt::Result {
-        let added = self.added;
-        let present = self.present;
-        let not_taken = self.not_taken;
-        let full = self.full;
         write!(
             f,
-            "put 1: {added}, put 0: {present}, put 31: {not_taken}, put 58: {full}, "
+            "put 1: {}, put 0: {}, put 31: {}, put 58: {}, ",
+            self.added, self.present, self.not_taken, self.full
         )?;
-        let dropped = self.dropped;
-        let absent = self.absent;
-        write!(f, "drop 1: {dropped}, drop 0: {absent}, ")?;
-        let met = self.met;
-        let ended = self.ended;
-        let greatest = self.greatest_count;
+        write!(f, "drop 1: {}, drop 0: {}, ", self.dropped, self.absent)?;
         write!(
             f,
-            "walk met: {met}, walk ended: {ended}, greatest count: {greatest}"
+            "walk met: {}, walk ended: {}, greatest count: {}",
+            self.met, self.ended, self.greatest_count
         )
     }
 }
