@@ -12,52 +12,24 @@ use Rattle.grammar.specs.declared.shape.Arity.TheVariants.{Zero, One, Two}
 use Rattle.grammar.specs.Grammar.{slots, arity}
 use Rattle.grammar.specs.Entries.{Arg, Entry, entry}
 use Rattle.grammar.specs.Reading.{State, Outcome, Step, Test, done, stop, then, next, tested, left, is, same, form_of, fault_at, within, rising, ranged, argument, arguments, operand, operands, word, counted, opening, arg, pushed, closing, formula}
-use Rattle.items.specs.Tokens.{Token, plain, number, token_of, token, tokens}
+use Rattle.items.specs.Items.{kind_number, item_number}
+use Rattle.items.specs.Tokens.{tokens}
 use Rattle.grammar.specs.Trees.{Tree, leaf, unary, binary, arg_token, arg_tokens, tree_tokens, inside, nodes_after, in_range, fits, bound, args_fit, Well}
-use Rattle.std.proofs.lemmas.Bool.{and_parts}
-use Rattle.items.proofs.Tests.{apart}
-use Rattle.grammar.proofs.Inversion.{EndLast, later, end_then, and_true, length_after, slots_end}
+use Rattle.std.proofs.lemmas.Bool.{and_parts, and_from, false≢true}
+use Rattle.grammar.proofs.Inversion.{EndLast, later, end_then, length_after, slots_end}
 use Rattle.items.specs.declared.item.Kind.TheVariants as kind
 use Rattle.grammar.specs.declared.fault.FaultKind.TheVariants as fault
 
-mixed : {z : ℤ} {k : Kind} → number z ≡ plain k → ⊥
-mixed h = let e : ◌≡◌ {A = ℕ} 0 1 = cc in omega arith
-
--- the kind of an item, from its token
-kind_plain : (k : Kind) (z : ℤ) (j : Kind) → token_of k z ≡ plain j → k ≡ j
-kind_plain kind.Open z j h = cc
-kind_plain kind.Close z j h = cc
-kind_plain kind.Space z j h = cc
-kind_plain kind.Newline z j h = cc
-kind_plain kind.Rule z j h = cc
-kind_plain kind.End z j h = cc
-kind_plain (kind.Form f) z j h = cc
-kind_plain kind.Number z j h = absurd (mixed h)
-kind_plain kind.Misspelt z j h = cc
-kind_plain kind.Other z j h = cc
-
-pub kind_number : (k : Kind) (z y : ℤ) → token_of k z ≡ number y → (k ≡ kind.Number) × (z ≡ y)
-kind_number kind.Open z y h = absurd (mixed (sym h))
-kind_number kind.Close z y h = absurd (mixed (sym h))
-kind_number kind.Space z y h = absurd (mixed (sym h))
-kind_number kind.Newline z y h = absurd (mixed (sym h))
-kind_number kind.Rule z y h = absurd (mixed (sym h))
-kind_number kind.End z y h = absurd (mixed (sym h))
-kind_number (kind.Form f) z y h = absurd (mixed (sym h))
-kind_number kind.Number z y h = (refl, cc)
-kind_number kind.Misspelt z y h = absurd (mixed (sym h))
-kind_number kind.Other z y h = absurd (mixed (sym h))
-
 -- the first item, from the tokens
-pub record First (items : List Item) (x : Token) (r : List Token) : Type 0 where
+pub record First (items : List Item) (x : Kind) (r : List Kind) : Type 0 where
   pub item : Item
   pub rest : List Item
   pub is_first : items ≡ item ∷ rest
-  pub is_token : token item ≡ x
+  pub is_token : item.kind ≡ x
   pub are : tokens rest ≡ r
 
-pub first : (items : List Item) (x : Token) (r : List Token) → tokens items ≡ x ∷ r → First items x r
-first [] x r h = absurd (let e : ◌≡◌ {A = ℕ} 0 1 = cc in omega arith)
+pub first : (items : List Item) (x : Kind) (r : List Kind) → tokens items ≡ x ∷ r → First items x r
+first [] x r h = absurd cc
 first (it ∷ items) x r h = record { item = it; rest = items; is_first = refl; is_token = cc; are = cc }
 
 -- an item that passes is read
@@ -65,28 +37,27 @@ pub next_ok : {V : Type 0} (test : Test V) (v : V) (s : State) (it : Item) (item
 next_ok test v s it items e p =
     subst (λ r. next test (left s r) ≡ done v (left s items)) (sym e) (ap (λ x. tested x (left s (it ∷ items)) items) p)
 
-pub record Next (k : Kind) (s : State) (r : List Token) : Type 0 where
+pub record Next (k : Kind) (s : State) (r : List Kind) : Type 0 where
   pub rest : List Item
   pub reads : next (is k) s ≡ done tt (left s rest)
   pub are : tokens rest ≡ r
 
-pub next_plain : (k : Kind) (s : State) (r : List Token) → same k k ≡ true → tokens s.rest ≡ plain k ∷ r → Next k s r
-next_plain k s r y h =
-    let f = first s.rest (plain k) r h in
-    let e = kind_plain f.item.kind f.item.number k f.is_token in
-    let p : same f.item.kind k ≡ true = subst (λ j. same j k ≡ true) (sym e) y in
+pub next_kind : (k : Kind) (s : State) (r : List Kind) → same k k ≡ true → tokens s.rest ≡ k ∷ r → Next k s r
+next_kind k s r y h =
+    let f = first s.rest (k) r h in
+    let p : same f.item.kind k ≡ true = subst (λ j. same j k ≡ true) (sym f.is_token) y in
     record { rest = f.rest; reads = next_ok (is k) tt s f.item f.rest f.is_first (ap (λ b. cond b (Ok tt) (Err fault.Misfit)) p); are = f.are }
 
 -- an argument that fits is read
-in_range_ok : (low high : ℤ) (it : Item) → in_range low high it.number ≡ true → within low high it ≡ Ok it
+in_range_ok : (low high : ℤ) (it : Item) → in_range low high (item_number it) ≡ true → within low high it ≡ Ok it
 in_range_ok low high it h = ap (λ b. cond b (Ok it) (Err fault.BadNumber)) h
 
-rising_ok : (low high before : ℤ) (it : Item) → in_range low high it.number && le_z before it.number ≡ true → rising low high before it ≡ Ok it
+rising_ok : (low high before : ℤ) (it : Item) → in_range low high (item_number it) && le_z before (item_number it) ≡ true → rising low high before it ≡ Ok it
 rising_ok low high before it h =
-    let p = and_parts (in_range low high it.number) (le_z before it.number) h in
-    ap (λ b. cond b (cond (le_z before it.number) (Ok it) (Err fault.Unordered)) (Err fault.BadNumber)) p.0 ∙ ap (λ b. cond b (Ok it) (Err fault.Unordered)) p.1
+    let p = and_parts (in_range low high (item_number it)) (le_z before (item_number it)) h in
+    ap (λ b. cond b (cond (le_z before (item_number it)) (Ok it) (Err fault.Unordered)) (Err fault.BadNumber)) p.0 ∙ ap (λ b. cond b (Ok it) (Err fault.Unordered)) p.1
 
-ranged_ok : (slot : Slot) (before : ℤ) (it : Item) → fits slot before (Some it.number) ≡ true → ranged slot before it ≡ Ok it
+ranged_ok : (slot : Slot) (before : ℤ) (it : Item) → fits slot before (Some (item_number it)) ≡ true → ranged slot before it ≡ Ok it
 ranged_ok (Range low high) before it h = in_range_ok low high it h
 ranged_ok (Upper low high) before it h = rising_ok low high before it h
 ranged_ok (UpperOrEnd low high) before it h = rising_ok low high before it h
@@ -94,48 +65,46 @@ ranged_ok (UpperOrEnd low high) before it h = rising_ok low high before it h
 abbrev pub Argument : Slot → ℤ → Arg → Item → Type 0
 Argument slot before x it = (argument slot before it ≡ Ok it) × (arg it ≡ x)
 
-end_ok : (slot : Slot) (before : ℤ) (place : Place) (z : ℤ) → fits slot before None ≡ true → Argument slot before None (record { kind = kind.End; place = place; number = z })
-end_ok (Range low high) before place z h = absurd (apart h)
-end_ok (Upper low high) before place z h = absurd (apart h)
-end_ok (UpperOrEnd low high) before place z h = (refl, refl)
+end_ok : (slot : Slot) (before : ℤ) (place : Place) → fits slot before None ≡ true → Argument slot before None (record { kind = kind.End; place = place })
+end_ok (Range low high) before place h = absurd (false≢true h)
+end_ok (Upper low high) before place h = absurd (false≢true h)
+end_ok (UpperOrEnd low high) before place h = (refl, refl)
 
-number_ok : (slot : Slot) (before : ℤ) (place : Place) (z : ℤ) → fits slot before (Some z) ≡ true → Argument slot before (Some z) (record { kind = kind.Number; place = place; number = z })
-number_ok slot before place z h = (ranged_ok slot before (record { kind = kind.Number; place = place; number = z }) h, refl)
+number_ok : (slot : Slot) (before : ℤ) (place : Place) (z : ℤ) → fits slot before (Some z) ≡ true → Argument slot before (Some z) (record { kind = kind.Number z; place = place })
+number_ok slot before place z h = (ranged_ok slot before (record { kind = kind.Number z; place = place }) h, refl)
 
-pub argument_ok : (slot : Slot) (before : ℤ) (x : Arg) (it : Item) → fits slot before x ≡ true → token it ≡ arg_token x → Argument slot before x it
+pub argument_ok : (slot : Slot) (before : ℤ) (x : Arg) (it : Item) → fits slot before x ≡ true → it.kind ≡ arg_token x → Argument slot before x it
 argument_ok slot before (Some z) it h e =
-    let p = kind_number it.kind it.number z e in
-    subst (λ k. Argument slot before (Some z) (record { kind = k; place = it.place; number = it.number })) (sym p.0) (subst (λ y. Argument slot before (Some z) (record { kind = kind.Number; place = it.place; number = y })) (sym p.1) (number_ok slot before it.place z h))
+    subst (λ k. Argument slot before (Some z) (record { kind = k; place = it.place })) (sym e) (number_ok slot before it.place z h)
 argument_ok slot before None it h e =
-    let p = kind_plain it.kind it.number kind.End e in
-    subst (λ k. Argument slot before None (record { kind = k; place = it.place; number = it.number })) (sym p) (end_ok slot before it.place it.number h)
+    subst (λ k. Argument slot before None (record { kind = k; place = it.place })) (sym e) (end_ok slot before it.place h)
 
 -- the bound for what follows
-next_bound : (slot : Slot) (more : List Slot) (before : ℤ) (x : Arg) (it : Item) (xs : List Arg) → EndLast (slot ∷ more) → fits slot before x ≡ true → token it ≡ arg_token x → args_fit more (bound x) xs ≡ true → args_fit more it.number xs ≡ true
-next_bound slot more before (Some z) it xs l f e h = subst (λ y. args_fit more y xs ≡ true) (sym (kind_number it.kind it.number z e).1) h
-next_bound slot more before None it xs l f e h = end_then slot more before (pos 0) it.number xs l f h
+next_bound : (slot : Slot) (more : List Slot) (before : ℤ) (x : Arg) (it : Item) (xs : List Arg) → EndLast (slot ∷ more) → fits slot before x ≡ true → it.kind ≡ arg_token x → args_fit more (bound x) xs ≡ true → args_fit more (item_number it) xs ≡ true
+next_bound slot more before (Some z) it xs l f e h = subst (λ y. args_fit more y xs ≡ true) (sym (ap kind_number e)) h
+next_bound slot more before None it xs l f e h = end_then slot more before (pos 0) (item_number it) xs l f h
 
-record Arguments (ss : List Slot) (before : ℤ) (s : State) (xs : List Arg) (r : List Token) : Type 0 where
+record Arguments (ss : List Slot) (before : ℤ) (s : State) (xs : List Arg) (r : List Kind) : Type 0 where
   its : List Item
   rest : List Item
   reads : arguments ss before s ≡ done its (left s rest)
   args : map arg its ≡ xs
   are : tokens rest ≡ r
 
-arguments_then : (slot : Slot) (more : List Slot) (before : ℤ) (s t u v : State) (it : Item) (its : List Item) → next (is kind.Space) s ≡ done tt t → next (argument slot before) t ≡ done it u → arguments more it.number u ≡ done its v → arguments (slot ∷ more) before s ≡ done (it ∷ its) v
+arguments_then : (slot : Slot) (more : List Slot) (before : ℤ) (s t u v : State) (it : Item) (its : List Item) → next (is kind.Space) s ≡ done tt t → next (argument slot before) t ≡ done it u → arguments more (item_number it) u ≡ done its v → arguments (slot ∷ more) before s ≡ done (it ∷ its) v
 arguments_then slot more before s t u v it its p q r = rw (p, q, r)
 
-args_ok : (ss : List Slot) → EndLast ss → (before : ℤ) (s : State) (xs : List Arg) (r : List Token) → args_fit ss before xs ≡ true → tokens s.rest ≡ arg_tokens xs r → Arguments ss before s xs r
+args_ok : (ss : List Slot) → EndLast ss → (before : ℤ) (s : State) (xs : List Arg) (r : List Kind) → args_fit ss before xs ≡ true → tokens s.rest ≡ arg_tokens xs r → Arguments ss before s xs r
 args_ok [] l before s [] r h e = record { its = []; rest = s.rest; reads = refl; args = refl; are = e }
-args_ok [] l before s (x ∷ xs) r h e = absurd (apart h)
-args_ok (slot ∷ more) l before s [] r h e = absurd (apart h)
+args_ok [] l before s (x ∷ xs) r h e = absurd (false≢true h)
+args_ok (slot ∷ more) l before s [] r h e = absurd (false≢true h)
 args_ok (slot ∷ more) l before s (x ∷ xs) r h e =
     let p = and_parts (fits slot before x) (args_fit more (bound x) xs) h in
-    let sp = next_plain kind.Space s (arg_token x ∷ arg_tokens xs r) refl e in
+    let sp = next_kind kind.Space s (arg_token x ∷ arg_tokens xs r) refl e in
     let f = first sp.rest (arg_token x) (arg_tokens xs r) sp.are in
     let a = argument_ok slot before x f.item p.0 f.is_token in
     let n = next_ok (argument slot before) f.item (left s sp.rest) f.item f.rest f.is_first a.0 in
-    let m = args_ok more (later slot more l) f.item.number (left s f.rest) xs r (next_bound slot more before x f.item xs l p.0 f.is_token p.1) f.are in
+    let m = args_ok more (later slot more l) (item_number f.item) (left s f.rest) xs r (next_bound slot more before x f.item xs l p.0 f.is_token p.1) f.are in
     record {
       its = f.item ∷ m.its;
       rest = m.rest;
@@ -148,13 +117,13 @@ args_ok (slot ∷ more) l before s (x ∷ xs) r h e =
 abbrev pub after : State → Tree → List Item → State
 after s tree items = record { rest = items; past = s.past; opened = s.opened + (inside tree + 1); nodes = nodes_after s.nodes tree }
 
-pub record Accepted (levels : ℕ) (tree : Tree) (s : State) (r : List Token) : Type 0 where
+pub record Accepted (levels : ℕ) (tree : Tree) (s : State) (r : List Kind) : Type 0 where
   pub rest : List Item
   pub reads : formula levels s ≡ done (length s.nodes + inside tree) (after s tree rest)
   pub are : tokens rest ≡ r
 
 -- the opening bracket and the word
-record Opened (levels : ℕ) (f : Form) (s : State) (r : List Token) : Type 0 where
+record Opened (levels : ℕ) (f : Form) (s : State) (r : List Kind) : Type 0 where
   rest : List Item
   reads : opening levels s ≡ done f (counted (left s rest))
   are : tokens rest ≡ r
@@ -163,28 +132,27 @@ opening_then : (levels : ℕ) (f : Form) (s t : State) (o : Outcome Form) → ne
 opening_then levels f s t o p q w =
     ap (λ x. then x (λ _ u. cond (ltb 0 levels && ltb s.opened 64) (next word (counted u)) (stop (fault_at s fault.TooMany)))) p ∙ ap (λ b. cond b (next word (counted t)) (stop (fault_at s fault.TooMany))) q ∙ w
 
-opening_ok : (l : ℕ) (f : Form) (s : State) (r : List Token) → s.opened < 64 → tokens s.rest ≡ plain kind.Open ∷ plain (kind.Form f) ∷ r → Opened (suc l) f s r
+opening_ok : (l : ℕ) (f : Form) (s : State) (r : List Kind) → s.opened < 64 → tokens s.rest ≡ kind.Open ∷ kind.Form f ∷ r → Opened (suc l) f s r
 opening_ok l f s r lt e =
-    let o = next_plain kind.Open s (plain (kind.Form f) ∷ r) refl e in
-    let w = first o.rest (plain (kind.Form f)) r o.are in
-    let k = kind_plain w.item.kind w.item.number (kind.Form f) w.is_token in
-    let n = next_ok word f (counted (left s o.rest)) w.item w.rest w.is_first (ap form_of k) in
+    let o = next_kind kind.Open s (kind.Form f ∷ r) refl e in
+    let w = first o.rest (kind.Form f) r o.are in
+    let n = next_ok word f (counted (left s o.rest)) w.item w.rest w.is_first (ap form_of w.is_token) in
     let z : 0 < suc l = omega arith in
-    record { rest = w.rest; reads = opening_then (suc l) f s (left s o.rest) _ o.reads (and_true _ _ (lt-ltb 0 (suc l) z) (lt-ltb s.opened 64 lt)) n; are = w.are }
+    record { rest = w.rest; reads = opening_then (suc l) f s (left s o.rest) _ o.reads (and_from _ _ (lt-ltb 0 (suc l) z) (lt-ltb s.opened 64 lt)) n; are = w.are }
 
 -- the closing bracket
-record Closed (e : Entry) (s : State) (r : List Token) : Type 0 where
+record Closed (e : Entry) (s : State) (r : List Kind) : Type 0 where
   rest : List Item
   reads : closing e s ≡ done (length s.nodes) (pushed e (left s rest))
   are : tokens rest ≡ r
 
-closing_ok : (e : Entry) (s : State) (r : List Token) → tokens s.rest ≡ plain kind.Close ∷ r → Closed e s r
+closing_ok : (e : Entry) (s : State) (r : List Kind) → tokens s.rest ≡ kind.Close ∷ r → Closed e s r
 closing_ok e s r h =
-    let c = next_plain kind.Close s r refl h in
+    let c = next_kind kind.Close s r refl h in
     record { rest = c.rest; reads = ap (λ x. then x (λ _ t. done (length t.nodes) (pushed e t))) c.reads; are = c.are }
 
 abbrev pub Induct : ℕ → Type 0
-Induct l = (tree : Tree) (s : State) (r : List Token) → Well l tree → s.opened + (inside tree + 1) ≤ 64 → tokens s.rest ≡ tree_tokens tree r → Accepted l tree s r
+Induct l = (tree : Tree) (s : State) (r : List Kind) → Well l tree → s.opened + (inside tree + 1) ≤ 64 → tokens s.rest ≡ tree_tokens tree r → Accepted l tree s r
 
 abbrev rest_of : ℕ → Form → List Item → Step ℕ
 rest_of l g its q = then (operands (formula l) (arity g) q) (λ qs z. closing (entry g (map arg its) qs) z)
@@ -195,15 +163,15 @@ composed l s f t its u xs n os v m w o a x k p c =
     ap (λ y. then y (λ g q. then (arguments (slots g) (pos 0) q) (rest_of l g))) o ∙ ap (λ y. then y (rest_of l f)) a ∙ ap (λ y. then (operands (formula l) y u) (λ qs q. closing (entry f (map arg its) qs) q)) k ∙ ap (λ y. then y (λ qs q. closing (entry f (map arg its) qs) q)) p ∙ ap (λ y. closing (entry f y os) v) x ∙ c
 
 -- a space and a formula
-record Operand (l : ℕ) (tree : Tree) (s : State) (r : List Token) : Type 0 where
+record Operand (l : ℕ) (tree : Tree) (s : State) (r : List Kind) : Type 0 where
   rest : List Item
   reads : operand (formula l) s ≡ done (length s.nodes + inside tree) (after s tree rest)
   are : tokens rest ≡ r
 
 module _ (l : ℕ) (ih : Induct l) where
-  operand_ok : (tree : Tree) (s : State) (r : List Token) → Well l tree → s.opened + (inside tree + 1) ≤ 64 → tokens s.rest ≡ plain kind.Space ∷ tree_tokens tree r → Operand l tree s r
+  operand_ok : (tree : Tree) (s : State) (r : List Kind) → Well l tree → s.opened + (inside tree + 1) ≤ 64 → tokens s.rest ≡ kind.Space ∷ tree_tokens tree r → Operand l tree s r
   operand_ok tree s r w few e =
-      let sp = next_plain kind.Space s (tree_tokens tree r) refl e in
+      let sp = next_kind kind.Space s (tree_tokens tree r) refl e in
       let f = ih tree (left s sp.rest) r w few sp.are in
       record { rest = f.rest; reads = ap (λ x. then x (λ _ t. formula l t)) sp.reads ∙ f.reads; are = f.are }
 
@@ -212,24 +180,24 @@ module _ (l : ℕ) (ih : Induct l) where
 
   tree_ok : Induct (suc l)
   tree_ok (leaf f xs) s r w few e =
-      let o = opening_ok l f s (arg_tokens xs (plain kind.Close ∷ r)) (omega arith) e in
-      let a = args_ok (slots f) (slots_end f) (pos 0) (counted (left s o.rest)) xs (plain kind.Close ∷ r) w.1 o.are in
+      let o = opening_ok l f s (arg_tokens xs (kind.Close ∷ r)) (omega arith) e in
+      let a = args_ok (slots f) (slots_end f) (pos 0) (counted (left s o.rest)) xs (kind.Close ∷ r) w.1 o.are in
       let c = closing_ok (entry f xs []) (counted (left s a.rest)) r a.are in
       let n : length s.nodes ≡ length s.nodes + 0 = omega arith in
       record { rest = c.rest; reads = composed l s f _ a.its _ xs Zero [] _ _ _ o.reads a.reads a.args w.0 refl (c.reads ∙ same_state s c.rest _ _ (s.nodes ++ (entry f xs [] ∷ [])) _ _ refl n); are = c.are }
   tree_ok (unary f xs x) s r w few e =
-      let o = opening_ok l f s (arg_tokens xs (plain kind.Space ∷ tree_tokens x (plain kind.Close ∷ r))) (omega arith) e in
-      let a = args_ok (slots f) (slots_end f) (pos 0) (counted (left s o.rest)) xs (plain kind.Space ∷ tree_tokens x (plain kind.Close ∷ r)) w.0.1 o.are in
-      let p = operand_ok x (counted (left s a.rest)) (plain kind.Close ∷ r) w.1 (omega arith) a.are in
+      let o = opening_ok l f s (arg_tokens xs (kind.Space ∷ tree_tokens x (kind.Close ∷ r))) (omega arith) e in
+      let a = args_ok (slots f) (slots_end f) (pos 0) (counted (left s o.rest)) xs (kind.Space ∷ tree_tokens x (kind.Close ∷ r)) w.0.1 o.are in
+      let p = operand_ok x (counted (left s a.rest)) (kind.Close ∷ r) w.1 (omega arith) a.are in
       let b = entry f xs ((length s.nodes + inside x) ∷ []) in
       let c = closing_ok b (after (counted (left s a.rest)) x p.rest) r p.are in
       let opened : s.opened + 1 + (inside x + 1) ≡ s.opened + (inside x + 1 + 1) = omega arith in
       record { rest = c.rest; reads = composed l s f _ a.its _ xs One ((length s.nodes + inside x) ∷ []) _ _ _ o.reads a.reads a.args w.0.0 (ap (λ y. then y (λ n t. done (n ∷ []) t)) p.reads) (c.reads ∙ same_state s c.rest _ _ (nodes_after s.nodes x ++ (b ∷ [])) _ _ opened (length_after s.nodes x)); are = c.are }
   tree_ok (binary f xs x y) s r w few e =
-      let o = opening_ok l f s (arg_tokens xs (plain kind.Space ∷ tree_tokens x (plain kind.Space ∷ tree_tokens y (plain kind.Close ∷ r)))) (omega arith) e in
-      let a = args_ok (slots f) (slots_end f) (pos 0) (counted (left s o.rest)) xs (plain kind.Space ∷ tree_tokens x (plain kind.Space ∷ tree_tokens y (plain kind.Close ∷ r))) w.0.1 o.are in
-      let p = operand_ok x (counted (left s a.rest)) (plain kind.Space ∷ tree_tokens y (plain kind.Close ∷ r)) w.1 (omega arith) a.are in
-      let q = operand_ok y (after (counted (left s a.rest)) x p.rest) (plain kind.Close ∷ r) w.2 (omega arith) p.are in
+      let o = opening_ok l f s (arg_tokens xs (kind.Space ∷ tree_tokens x (kind.Space ∷ tree_tokens y (kind.Close ∷ r)))) (omega arith) e in
+      let a = args_ok (slots f) (slots_end f) (pos 0) (counted (left s o.rest)) xs (kind.Space ∷ tree_tokens x (kind.Space ∷ tree_tokens y (kind.Close ∷ r))) w.0.1 o.are in
+      let p = operand_ok x (counted (left s a.rest)) (kind.Space ∷ tree_tokens y (kind.Close ∷ r)) w.1 (omega arith) a.are in
+      let q = operand_ok y (after (counted (left s a.rest)) x p.rest) (kind.Close ∷ r) w.2 (omega arith) p.are in
       let m = length s.nodes + inside x in
       let n = length (nodes_after s.nodes x) + inside y in
       let b = entry f xs (m ∷ n ∷ []) in

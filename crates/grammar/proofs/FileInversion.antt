@@ -1,18 +1,17 @@
 -- What is read as a file is the text of well-formed rules, and such a text is read.
 use Rattle.std.proofs.Common.{◌≡◌, ℕ, zero, suc, ◌+◌, ◌<◌, ◌≤◌, Bool, true, false, cond, List, [], ◌∷◌, length, ℤ, pos, negsuc, Some, None, sym, refl, ap, ◌∙◌, subst, arith, leb-true}
 use lib.Signed.{le_z, mag}
-use Rattle.std.proofs.lemmas.Bool.{and_parts}
+use Rattle.std.proofs.lemmas.Bool.{and_parts, false≢true}
 use Rattle.items.specs.declared.item.Place.{Place}
 use Rattle.items.specs.declared.item.Item.{Item}
 use Rattle.grammar.specs.declared.shape.Slot.{Slot}
 use Rattle.grammar.specs.declared.shape.Slot.TheVariants.{Upper}
 use Rattle.grammar.specs.Reading.{State, done, stop, then, next, is, same, fault_at, argument, formula}
-use Rattle.items.specs.Tokens.{plain, number, tokens}
+use Rattle.items.specs.Items.{item_number}
+use Rattle.items.specs.Tokens.{tokens}
 use Rattle.grammar.specs.Trees.{in_range, Tree, arg_token, tree_tokens, inside, nodes_after, fits, Well}
 use Rattle.syntax.specs.declared.Rule.{Rule}
 use Rattle.grammar.specs.Files.{rule_of, rule_number, rule, at_end, rules, all_rules, start_of, file, Line, lines_tokens, lines_nodes, lines_rules, formulas, Numbered, WellLines, WellFile}
-use Rattle.items.proofs.Tests.{apart}
-use Rattle.grammar.proofs.Tokens.{is_open, is_close, is_space, is_rule, is_newline}
 use Rattle.grammar.proofs.Inversion.{stopped, both, passed, taken, argued, formula_read}
 use Rattle.items.specs.declared.item.Kind.TheVariants as kind
 use Rattle.grammar.specs.declared.fault.FaultKind.TheVariants as fault
@@ -22,7 +21,7 @@ number_slot = Upper (pos 1) (pos 99)
 
 -- a rule's number
 numbered : (b : Bool) (least y : ℤ) → fits number_slot least (cond b None (Some y)) ≡ true → cond b None (Some y) ≡ Some y
-numbered true least y h = absurd (apart h)
+numbered true least y h = absurd (false≢true h)
 numbered false least y h = refl
 
 number_fits : (least : ℕ) (y : ℤ) → fits number_slot (pos least) (Some y) ≡ true → Numbered least (mag y) × (y ≡ pos (mag y))
@@ -30,14 +29,14 @@ number_fits least (pos n) h =
     let p = and_parts (in_range (pos 1) (pos 99) (pos n)) (le_z (pos least) (pos n)) h in
     let q = and_parts (le_z (pos 1) (pos n)) (le_z (pos n) (pos 99)) p.0 in
     ((leb-true 1 n q.0, leb-true n 99 q.1, leb-true least n p.1), refl)
-number_fits least (negsuc n) h = absurd (apart h)
+number_fits least (negsuc n) h = absurd (false≢true h)
 
 -- a line that is read, after its opening bracket
 pub record Ruled (least : ℕ) (s : State) (r : Rule) (t : State) : Type 0 where
   tree : Tree
   pub fit : Numbered least r.number
   well : Well 12 tree
-  was : tokens s.rest ≡ plain kind.Rule ∷ plain kind.Space ∷ number (pos r.number) ∷ plain kind.Space ∷ tree_tokens tree (plain kind.Close ∷ plain kind.Newline ∷ tokens t.rest)
+  was : tokens s.rest ≡ kind.Rule ∷ kind.Space ∷ kind.Number (pos r.number) ∷ kind.Space ∷ tree_tokens tree (kind.Close ∷ kind.Newline ∷ tokens t.rest)
   root : r.root ≡ length s.nodes + inside tree
   opened : t.opened ≡ s.opened + (inside tree + 1)
   nodes : t.nodes ≡ nodes_after s.nodes tree
@@ -58,17 +57,17 @@ ruled least s r t h =
     let e = both (formula 12 d.state) _ r t d.then_done in
     let f = both (next (is kind.Close) e.state) _ r t e.then_done in
     let g = both (next (is kind.Newline) f.state) _ r t f.then_done in
-    let pa = passed kind.Rule is_rule s a.value a.state a.first in
-    let pb = passed kind.Space is_space a.state b.value b.state b.first in
+    let pa = passed kind.Rule refl s a.value a.state a.first in
+    let pb = passed kind.Space refl a.state b.value b.state b.first in
     let pc = taken (argument number_slot (pos least)) b.state c.value c.state c.first in
     let n = argued number_slot (pos least) pc.item c.value pc.passed in
-    let pd = passed kind.Space is_space c.state d.value d.state d.first in
+    let pd = passed kind.Space refl c.state d.value d.state d.first in
     let m = formula_read 12 d.state e.value e.state e.first in
-    let pf = passed kind.Close is_close e.state f.value f.state f.first in
-    let pg = passed kind.Newline is_newline f.state g.value g.state g.first in
-    let num = numbered (same pc.item.kind kind.End) (pos least) pc.item.number n.0.fit in
+    let pf = passed kind.Close refl e.state f.value f.state f.first in
+    let pg = passed kind.Newline refl f.state g.value g.state g.first in
+    let num = numbered (same pc.item.kind kind.End) (pos least) (item_number pc.item) n.0.fit in
     let item : pc.item ≡ c.value = n.1 in
-    let small = number_fits least c.value.number (subst (λ i. fits number_slot (pos least) (Some i.number) ≡ true) item (subst (λ x. fits number_slot (pos least) x ≡ true) num n.0.fit)) in
+    let small = number_fits least (item_number c.value) (subst (λ i. fits number_slot (pos least) (Some (item_number i)) ≡ true) item (subst (λ x. fits number_slot (pos least) x ≡ true) num n.0.fit)) in
     let ra : tokens a.state.rest ≡ tokens pa.rest = ap (λ u. tokens u.rest) pa.after in
     let rb : b.state.rest ≡ pb.rest = ap (λ u. u.rest) pb.after in
     let rc : tokens c.state.rest ≡ tokens pc.rest = ap (λ u. tokens u.rest) pc.after in
@@ -79,11 +78,11 @@ ruled least s r t h =
     let os : d.state.opened ≡ s.opened = ap (λ u. u.opened) pd.after ∙ ap (λ u. u.opened) pc.after ∙ ap (λ u. u.opened) pb.after ∙ ap (λ u. u.opened) pa.after in
     let gn : g.state.nodes ≡ e.state.nodes = ap (λ u. u.nodes) pg.after ∙ ap (λ u. u.nodes) pf.after in
     let go : g.state.opened ≡ e.state.opened = ap (λ u. u.opened) pg.after ∙ ap (λ u. u.opened) pf.after in
-    ruled_same least s (rule_of (mag c.value.number) e.value) r g.state t g.then_done (record {
+    ruled_same least s (rule_of (mag (item_number c.value)) e.value) r g.state t g.then_done (record {
       tree = m.tree;
       fit = small.0;
       well = m.well;
-      was = pa.was ∙ ap (λ u. plain kind.Rule ∷ u) (sym ra ∙ pb.was ∙ ap (λ u. plain kind.Space ∷ u) (sym (ap tokens rb) ∙ ap tokens pc.was ∙ ap (λ x. x ∷ tokens pc.rest) (n.0.is ∙ ap arg_token num ∙ ap (λ i. number i.number) item ∙ ap number small.1) ∙ ap (λ u. number (pos (mag c.value.number)) ∷ u) (sym rc ∙ pd.was ∙ ap (λ u. plain kind.Space ∷ u) (sym rd ∙ m.was ∙ ap (tree_tokens m.tree) (pf.was ∙ ap (λ u. plain kind.Close ∷ u) (sym rf ∙ pg.was ∙ ap (λ u. plain kind.Newline ∷ u) (sym rg)))))));
+      was = pa.was ∙ ap (λ u. kind.Rule ∷ u) (sym ra ∙ pb.was ∙ ap (λ u. kind.Space ∷ u) (sym (ap tokens rb) ∙ ap tokens pc.was ∙ ap (λ x. x ∷ tokens pc.rest) (n.0.is ∙ ap arg_token num ∙ ap (λ i. kind.Number (item_number i)) item ∙ ap kind.Number small.1) ∙ ap (λ u. kind.Number (pos (mag (item_number c.value))) ∷ u) (sym rc ∙ pd.was ∙ ap (λ u. kind.Space ∷ u) (sym rd ∙ m.was ∙ ap (tree_tokens m.tree) (pf.was ∙ ap (λ u. kind.Close ∷ u) (sym rf ∙ pg.was ∙ ap (λ u. kind.Newline ∷ u) (sym rg)))))));
       root = m.number ∙ ap (λ u. length u + inside m.tree) ns;
       opened = go ∙ m.opened ∙ ap (λ u. u + (inside m.tree + 1)) os;
       nodes = gn ∙ m.nodes ∙ ap (λ u. nodes_after u m.tree) ns;
@@ -121,7 +120,7 @@ lines_more k ih least s (it ∷ items) e rs t h =
     let a = both (next (is kind.Open) s) _ rs t h in
     let b = both (rule least a.state) _ rs t a.then_done in
     let c = both (rules k (b.value.number + 1) b.state) _ rs t b.then_done in
-    let p = passed kind.Open is_open s a.value a.state a.first in
+    let p = passed kind.Open refl s a.value a.state a.first in
     let l = ruled least a.state b.value b.state b.first in
     let m = ih (b.value.number + 1) b.state c.value c.state c.first in
     let ra : tokens a.state.rest ≡ tokens p.rest = ap (λ u. tokens u.rest) p.after in
@@ -133,7 +132,7 @@ lines_more k ih least s (it ∷ items) e rs t h =
     lines_same (suc k) least s (b.value ∷ c.value) rs c.state t c.then_done (record {
       lines = line ∷ m.lines;
       well = (l.fit, l.well, m.well);
-      was = p.was ∙ ap (λ u. plain kind.Open ∷ u) (sym ra ∙ l.was ∙ ap (λ u. plain kind.Rule ∷ plain kind.Space ∷ number (pos b.value.number) ∷ plain kind.Space ∷ tree_tokens l.tree (plain kind.Close ∷ plain kind.Newline ∷ u)) m.was);
+      was = p.was ∙ ap (λ u. kind.Open ∷ u) (sym ra ∙ l.was ∙ ap (λ u. kind.Rule ∷ kind.Space ∷ kind.Number (pos b.value.number) ∷ kind.Space ∷ tree_tokens l.tree (kind.Close ∷ kind.Newline ∷ u)) m.was);
       are = ap (λ x. x ∷ c.value) root ∙ ap (λ x. rule_of b.value.number (length s.nodes + inside l.tree) ∷ x) (m.are ∙ ap (λ u. lines_rules u m.lines) bn);
       nodes = m.nodes ∙ ap (λ u. lines_nodes u m.lines) bn;
       opened = omega (arith, m.opened, l.opened, os);
@@ -153,7 +152,7 @@ pub record File (items : List Item) (end : Place) (rs : List Rule) (t : State) :
   pub nodes : t.nodes ≡ lines_nodes [] lines
 
 some_lines : (it : Item) (items : List Item) (ls : List Line) → tokens (it ∷ items) ≡ lines_tokens ls → 0 < length ls
-some_lines it items [] h = absurd (let z : ◌≡◌ {A = ℕ} 0 1 = cc in omega arith)
+some_lines it items [] h = absurd cc
 some_lines it items (l ∷ ls) h = omega arith
 
 -- whatever is read as a file is the text of well-formed rules

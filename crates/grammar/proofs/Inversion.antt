@@ -1,6 +1,6 @@
 -- What is read is the text of a formula.
-use Rattle.std.proofs.Common.{◌≡◌, ℕ, zero, suc, ◌+◌, ◌<◌, ◌≤◌, Bool, true, false, cond, ◌&&◌, ltb, List, [], ◌∷◌, ◌++◌, map, length, ℤ, pos, Some, None, Ok, Err, Result, sym, refl, ap, ◌∙◌, subst, arith, length-append, ltb-true}
-use Rattle.std.proofs.lemmas.Bool.{and_parts}
+use Rattle.std.proofs.Common.{◌≡◌, ℕ, zero, suc, ◌+◌, ◌<◌, ◌≤◌, Bool, true, false, cond, ◌&&◌, ltb, List, [], ◌∷◌, ◌++◌, map, length, ℤ, pos, Some, None, Ok, Err, Result, sym, refl, ap, ◌∙◌, subst, arith, rules, length-append, ltb-true}
+use Rattle.std.proofs.lemmas.Bool.{and_parts, and_from, false≢true}
 use lib.Signed.{le_z}
 use Rattle.items.specs.declared.item.Place.{Place}
 use Rattle.items.specs.declared.item.Form.{Form}
@@ -15,16 +15,15 @@ use Rattle.grammar.specs.declared.shape.Arity.TheVariants.{Zero, One, Two}
 use Rattle.grammar.specs.Grammar.{slots, arity}
 use Rattle.grammar.specs.Entries.{Arg, Entry, entry}
 use Rattle.grammar.specs.Reading.{State, Outcome, Step, Test, done, stop, then, next, tested, left, is, same, fault_at, within, ranged, may_end, argument, arguments, operand, operands, word, counted, opening, arg, pushed, closing, formula}
-use Rattle.items.specs.Tokens.{plain, token_of, token, tokens}
+use Rattle.items.specs.Items.{item_number}
+use Rattle.items.specs.Tokens.{tokens}
 use Rattle.grammar.specs.Trees.{Tree, leaf, unary, binary, arg_token, arg_tokens, head_tokens, tree_tokens, inside, nodes_after, in_range, fits, bound, args_fit, Well}
-use Rattle.items.proofs.Tests.{apart}
-use Rattle.grammar.proofs.Tokens.{err_ok, is_open, is_close, is_space, is_form}
-use Rattle.items.specs.declared.item.Form.TheVariants as form
+use Rattle.grammar.proofs.Tokens.{err_ok, bare, same_bare, is_form}
 use Rattle.items.specs.declared.item.Kind.TheVariants as kind
 use Rattle.grammar.specs.declared.fault.FaultKind.TheVariants as fault
 
 pub stopped : {V : Type 0} {f : Fault} {v : V} {t : State} → stop f ≡ done v t → ⊥
-stopped h = let z : ◌≡◌ {A = ℕ} 0 1 = cc in omega arith
+stopped h = cc
 
 -- both parts of a reading that is done are done
 pub record Both {V W : Type 0} (o : Outcome V) (k : V → Step W) (w : W) (t : State) : Type 0 where
@@ -65,44 +64,44 @@ pub cond_true : {V E : Type 0} (b : Bool) (x y : V) (e : E) → ◌≡◌ {A = R
 cond_true true x y e h = (refl, cc)
 cond_true false x y e h = absurd (err_ok h)
 
--- an item of a plain kind is read: what was there, and what is left
+-- an item of a kind is read: what was there, and what is left
 pub record Passed (k : Kind) (s : State) (t : State) : Type 0 where
   pub rest : List Item
-  pub was : tokens s.rest ≡ plain k ∷ tokens rest
+  pub was : tokens s.rest ≡ k ∷ tokens rest
   pub after : t ≡ left s rest
 
-pub passed : (k : Kind) → ((j : Kind) (z : ℤ) → same j k ≡ true → token_of j z ≡ plain k) → (s : State) (v : Unit {0}) (t : State) → next (is k) s ≡ done v t → Passed k s t
-passed k f s v t h =
+pub passed : (k : Kind) → bare k ≡ true → (s : State) (v : Unit {0}) (t : State) → next (is k) s ≡ done v t → Passed k s t
+passed k b s v t h =
     let x = taken (is k) s v t h in
     let p = cond_true (same x.item.kind k) tt v fault.Misfit x.passed in
-    record { rest = x.rest; was = ap tokens x.was ∙ ap (λ y. y ∷ tokens x.rest) (f x.item.kind x.item.number p.0); after = x.after }
+    record { rest = x.rest; was = ap tokens x.was ∙ ap (λ y. y ∷ tokens x.rest) (same_bare x.item.kind k b p.0); after = x.after }
 
 -- an argument that fits
 pub record Argued (slot : Slot) (before : ℤ) (it : Item) : Type 0 where
-  pub is : token it ≡ arg_token (arg it)
+  pub is : it.kind ≡ arg_token (arg it)
   pub fit : fits slot before (arg it) ≡ true
 
-within_fits : (low high : ℤ) (it v : Item) → within low high it ≡ Ok v → (in_range low high it.number ≡ true) × (it ≡ v)
-within_fits low high it v h = cond_true (in_range low high it.number) it v fault.BadNumber h
+within_fits : (low high : ℤ) (it v : Item) → within low high it ≡ Ok v → (in_range low high (item_number it) ≡ true) × (it ≡ v)
+within_fits low high it v h = cond_true (in_range low high (item_number it)) it v fault.BadNumber h
 
 rising_by : (b c : Bool) (it v : Item) → ◌≡◌ {A = Result Item FaultKind} (cond b (cond c (Ok it) (Err fault.Unordered)) (Err fault.BadNumber)) (Ok v) → (b && c ≡ true) × (it ≡ v)
 rising_by true true it v h = (refl, cc)
 rising_by true false it v h = absurd (err_ok h)
 rising_by false c it v h = absurd (err_ok h)
 
-ranged_fits : (slot : Slot) (before : ℤ) (it v : Item) → ranged slot before it ≡ Ok v → (fits slot before (Some it.number) ≡ true) × (it ≡ v)
+ranged_fits : (slot : Slot) (before : ℤ) (it v : Item) → ranged slot before it ≡ Ok v → (fits slot before (Some (item_number it)) ≡ true) × (it ≡ v)
 ranged_fits (Range low high) before it v h = within_fits low high it v h
-ranged_fits (Upper low high) before it v h = rising_by (in_range low high it.number) (le_z before it.number) it v h
-ranged_fits (UpperOrEnd low high) before it v h = rising_by (in_range low high it.number) (le_z before it.number) it v h
+ranged_fits (Upper low high) before it v h = rising_by (in_range low high (item_number it)) (le_z before (item_number it)) it v h
+ranged_fits (UpperOrEnd low high) before it v h = rising_by (in_range low high (item_number it)) (le_z before (item_number it)) it v h
 
 end_fits : (slot : Slot) (before : ℤ) (it v : Item) → ◌≡◌ {A = Result Item FaultKind} (cond (may_end slot) (Ok it) (Err fault.Misfit)) (Ok v) → (fits slot before None ≡ true) × (it ≡ v)
 end_fits (Range low high) before it v h = absurd (err_ok h)
 end_fits (Upper low high) before it v h = absurd (err_ok h)
 end_fits (UpperOrEnd low high) before it v h = (refl, cc)
 
-module _ (slot : Slot) (before : ℤ) (place : Place) (z : ℤ) where
+module _ (slot : Slot) (before : ℤ) (place : Place) where
   abbrev item : Kind → Item
-  item k = record { kind = k; place = place; number = z }
+  item k = record { kind = k; place = place }
 
   argued_kind : (k : Kind) (v : Item) → argument slot before (item k) ≡ Ok v → Argued slot before (item k) × (item k ≡ v)
   argued_kind kind.Open v h = absurd (err_ok h)
@@ -112,12 +111,12 @@ module _ (slot : Slot) (before : ℤ) (place : Place) (z : ℤ) where
   argued_kind kind.Rule v h = absurd (err_ok h)
   argued_kind kind.End v h = let p = end_fits slot before (item kind.End) v h in (record { is = refl; fit = p.0 }, p.1)
   argued_kind (kind.Form f) v h = absurd (err_ok h)
-  argued_kind kind.Number v h = let p = ranged_fits slot before (item kind.Number) v h in (record { is = refl; fit = p.0 }, p.1)
+  argued_kind (kind.Number z) v h = let p = ranged_fits slot before (item (kind.Number z)) v h in (record { is = refl; fit = p.0 }, p.1)
   argued_kind kind.Misspelt v h = absurd (err_ok h)
   argued_kind kind.Other v h = absurd (err_ok h)
 
 pub argued : (slot : Slot) (before : ℤ) (it v : Item) → argument slot before it ≡ Ok v → Argued slot before it × (it ≡ v)
-argued slot before it v h = argued_kind slot before it.place it.number it.kind v h
+argued slot before it v h = argued_kind slot before it.place it.kind v h
 
 -- `end` is the last argument
 abbrev pub EndLast : List Slot → Type 0
@@ -136,8 +135,8 @@ none_fit [] y z h = refl
 none_fit (x ∷ xs) y z h = h
 
 pub end_then : (slot : Slot) (more : List Slot) (before y z : ℤ) (xs : List Arg) → EndLast (slot ∷ more) → fits slot before None ≡ true → args_fit more y xs ≡ true → args_fit more z xs ≡ true
-end_then (Range low high) more before y z xs l f h = absurd (apart f)
-end_then (Upper low high) more before y z xs l f h = absurd (apart f)
+end_then (Range low high) more before y z xs l f h = absurd (false≢true f)
+end_then (Upper low high) more before y z xs l f h = absurd (false≢true f)
 end_then (UpperOrEnd low high) more before y z xs l f h = subst (λ m. args_fit m z xs ≡ true) (sym l) (none_fit xs y z (subst (λ m. args_fit m y xs ≡ true) l h))
 
 bound_by : (b : Bool) (slot : Slot) (more : List Slot) (before y : ℤ) (xs : List Arg) → EndLast (slot ∷ more) → fits slot before (cond b None (Some y)) ≡ true → args_fit more y xs ≡ true → args_fit more (bound (cond b None (Some y))) xs ≡ true
@@ -149,9 +148,6 @@ pub record Arguments (ss : List Slot) (before : ℤ) (s : State) (its : List Ite
   was : tokens s.rest ≡ arg_tokens (map arg its) (tokens t.rest)
   fit : args_fit ss before (map arg its) ≡ true
   pub after : t ≡ left s t.rest
-
-pub and_true : (a b : Bool) → a ≡ true → b ≡ true → a && b ≡ true
-and_true a b p q = rw (p, q)
 
 args_same : (ss : List Slot) (before : ℤ) (s : State) (a b : List Item) (v t : State) → done a v ≡ done b t → Arguments ss before s a v → Arguments ss before s b t
 args_same ss before s a b v t e h =
@@ -165,43 +161,24 @@ args_read [] l before s its t h =
 args_read (slot ∷ more) l before s its t h =
     let x = both (next (is kind.Space) s) _ its t h in
     let y = both (next (argument slot before) x.state) _ its t x.then_done in
-    let z = both (arguments more y.value.number y.state) _ its t y.then_done in
-    let p = passed kind.Space is_space s x.value x.state x.first in
+    let z = both (arguments more (item_number y.value) y.state) _ its t y.then_done in
+    let p = passed kind.Space refl s x.value x.state x.first in
     let q = taken (argument slot before) x.state y.value y.state y.first in
     let g = argued slot before q.item y.value q.passed in
-    let r = args_read more (later slot more l) y.value.number y.state z.value z.state z.first in
+    let r = args_read more (later slot more l) (item_number y.value) y.state z.value z.state z.first in
     let e1 : p.rest ≡ q.item ∷ q.rest = sym (ap (λ u. u.rest) p.after) ∙ q.was in
     let e2 : y.state.rest ≡ q.rest = ap (λ u. u.rest) q.after in
-    let e3 : token q.item ≡ arg_token (arg y.value) = g.0.is ∙ ap (λ i. arg_token (arg i)) g.1 in
+    let e3 : q.item.kind ≡ arg_token (arg y.value) = g.0.is ∙ ap (λ i. arg_token (arg i)) g.1 in
     let f : fits slot before (arg y.value) ≡ true = subst (λ i. fits slot before (arg i) ≡ true) g.1 g.0.fit in
     args_same (slot ∷ more) before s (y.value ∷ z.value) its z.state t z.then_done (record {
-      was = p.was ∙ ap (λ u. plain kind.Space ∷ tokens u) e1 ∙ ap (λ u. plain kind.Space ∷ u ∷ tokens q.rest) e3 ∙ ap (λ u. plain kind.Space ∷ arg_token (arg y.value) ∷ tokens u) (sym e2) ∙ ap (λ u. plain kind.Space ∷ arg_token (arg y.value) ∷ u) r.was;
-      fit = and_true _ _ f (bound_by (same y.value.kind kind.End) slot more before y.value.number (map arg z.value) l f r.fit);
+      was = p.was ∙ ap (λ u. kind.Space ∷ tokens u) e1 ∙ ap (λ u. kind.Space ∷ u ∷ tokens q.rest) e3 ∙ ap (λ u. kind.Space ∷ arg_token (arg y.value) ∷ tokens u) (sym e2) ∙ ap (λ u. kind.Space ∷ arg_token (arg y.value) ∷ u) r.was;
+      fit = and_from _ _ f (bound_by (same y.value.kind kind.End) slot more before (item_number y.value) (map arg z.value) l f r.fit);
       after = r.after ∙ ap (λ u. left u z.state.rest) q.after ∙ ap (λ u. left u z.state.rest) p.after;
     })
 
 -- the slots of every form
 pub slots_end : (f : Form) → EndLast (slots f)
-slots_end form.True = tt
-slots_end form.Some = tt
-slots_end form.Every = tt
-slots_end form.Fact = tt
-slots_end form.Number = tt
-slots_end form.Refer = tt
-slots_end form.Level = tt
-slots_end form.Not = tt
-slots_end form.And = tt
-slots_end form.Or = tt
-slots_end form.Implies = tt
-slots_end form.Next = refl
-slots_end form.AllNext = refl
-slots_end form.Sometime = refl
-slots_end form.Always = refl
-slots_end form.Until = refl
-slots_end form.Previous = refl
-slots_end form.Once = refl
-slots_end form.SoFar = refl
-slots_end form.Since = refl
+slots_end f = search rules
 
 -- a formula that is read: its text, and the nodes that it adds
 pub record Formula (levels : ℕ) (s : State) (n : ℕ) (t : State) : Type 0 where
@@ -222,7 +199,7 @@ length_after ns (binary f xs a b) = simp length-append (omega (arith, length_aft
 -- the opening bracket and the word
 pub record Opened (s : State) (f : Form) (t : State) : Type 0 where
   rest : List Item
-  was : tokens s.rest ≡ plain kind.Open ∷ plain (kind.Form f) ∷ tokens rest
+  was : tokens s.rest ≡ kind.Open ∷ kind.Form f ∷ tokens rest
   pub after_head : t ≡ counted (left s rest)
   lt : s.opened < 64
 
@@ -233,29 +210,29 @@ opened_by false s t f u e h = absurd (stopped h)
 pub opens : (levels : ℕ) (s : State) (f : Form) (t : State) → opening levels s ≡ done f t → Opened s f t
 opens levels s f t h =
     let x = both (next (is kind.Open) s) _ f t h in
-    let p = passed kind.Open is_open s x.value x.state x.first in
+    let p = passed kind.Open refl s x.value x.state x.first in
     let w = opened_by (ltb 0 levels && ltb s.opened 64) s x.state f t (fault_at s fault.TooMany) x.then_done in
     let q = taken word (counted x.state) f t w.1 in
     let l = and_parts (ltb 0 levels) (ltb s.opened 64) w.0 in
     let e1 : p.rest ≡ q.item ∷ q.rest = sym (ap (λ u. u.rest) p.after) ∙ q.was in
-    let e2 = is_form q.item.kind q.item.number f q.passed in
-    record { rest = q.rest; was = p.was ∙ ap (λ u. plain kind.Open ∷ tokens u) e1 ∙ ap (λ u. plain kind.Open ∷ u ∷ tokens q.rest) e2; after_head = q.after ∙ ap (λ u. left (counted u) q.rest) p.after; lt = ltb-true s.opened 64 l.1 }
+    let e2 = is_form q.item.kind f q.passed in
+    record { rest = q.rest; was = p.was ∙ ap (λ u. kind.Open ∷ tokens u) e1 ∙ ap (λ u. kind.Open ∷ u ∷ tokens q.rest) e2; after_head = q.after ∙ ap (λ u. left (counted u) q.rest) p.after; lt = ltb-true s.opened 64 l.1 }
 
 -- the closing bracket
 record Closed (e : Entry) (s : State) (n : ℕ) (t : State) : Type 0 where
-  was : tokens s.rest ≡ plain kind.Close ∷ tokens t.rest
+  was : tokens s.rest ≡ kind.Close ∷ tokens t.rest
   number : n ≡ length s.nodes
   after_close : t ≡ pushed e (left s t.rest)
 
 closes : (e : Entry) (s : State) (n : ℕ) (t : State) → closing e s ≡ done n t → Closed e s n t
 closes e s n t h =
     let x = both (next (is kind.Close) s) _ n t h in
-    let p = passed kind.Close is_close s x.value x.state x.first in
+    let p = passed kind.Close refl s x.value x.state x.first in
     let a : n ≡ length x.state.nodes = cc x.then_done in
     let b : t ≡ pushed e x.state = cc x.then_done in
     let c : t ≡ pushed e (left s p.rest) = b ∙ ap (pushed e) p.after in
     let r : t.rest ≡ p.rest = ap (λ u. u.rest) c in
-    record { was = p.was ∙ ap (λ u. plain kind.Close ∷ tokens u) (sym r); number = a ∙ ap (λ u. length u.nodes) p.after; after_close = c ∙ ap (λ u. pushed e (left s u)) (sym r) }
+    record { was = p.was ∙ ap (λ u. kind.Close ∷ tokens u) (sym r); number = a ∙ ap (λ u. length u.nodes) p.after; after_close = c ∙ ap (λ u. pushed e (left s u)) (sym r) }
 
 -- the arguments of a form, and what follows them
 record Head (s : State) (f : Form) (xs : List Arg) (u : State) : Type 0 where
@@ -268,7 +245,7 @@ head : (s : State) (f : Form) (t : State) (its : List Item) (u : State) → Open
 head s f t its u o h =
     let a = args_read (slots f) (slots_end f) (pos 0) t its u h in
     let e : t.rest ≡ o.rest = ap (λ v. v.rest) o.after_head in
-    record { fit = a.fit; was = o.was ∙ ap (λ v. plain kind.Open ∷ plain (kind.Form f) ∷ tokens v) (sym e) ∙ ap (λ v. plain kind.Open ∷ plain (kind.Form f) ∷ v) a.was; at = a.after ∙ ap (λ v. left v u.rest) o.after_head; lt = o.lt }
+    record { fit = a.fit; was = o.was ∙ ap (λ v. kind.Open ∷ kind.Form f ∷ tokens v) (sym e) ∙ ap (λ v. kind.Open ∷ kind.Form f ∷ v) a.was; at = a.after ∙ ap (λ v. left v u.rest) o.after_head; lt = o.lt }
 
 closing_same : (f : Form) (xs : List Arg) (a b : List ℕ) (u v : State) (o : Outcome ℕ) → done a u ≡ done b v → closing (entry f xs b) v ≡ o → closing (entry f xs a) u ≡ o
 closing_same f xs a b u v o e h =
@@ -283,7 +260,7 @@ Induct levels = (s : State) (n : ℕ) (t : State) → formula levels s ≡ done 
 record Operand (levels : ℕ) (s : State) (n : ℕ) (t : State) : Type 0 where
   tree : Tree
   well : Well levels tree
-  was : tokens s.rest ≡ plain kind.Space ∷ tree_tokens tree (tokens t.rest)
+  was : tokens s.rest ≡ kind.Space ∷ tree_tokens tree (tokens t.rest)
   number : n ≡ length s.nodes + inside tree
   past : t.past ≡ s.past
   opened : t.opened ≡ s.opened + (inside tree + 1)
@@ -294,14 +271,14 @@ module _ (levels : ℕ) (ih : Induct levels) where
   operand_read : (s : State) (n : ℕ) (t : State) → operand (formula levels) s ≡ done n t → Operand levels s n t
   operand_read s n t h =
       let x = both (next (is kind.Space) s) _ n t h in
-      let p = passed kind.Space is_space s x.value x.state x.first in
+      let p = passed kind.Space refl s x.value x.state x.first in
       let f = ih x.state n t x.then_done in
       let e : x.state.rest ≡ p.rest = ap (λ u. u.rest) p.after in
       let ns : x.state.nodes ≡ s.nodes = ap (λ u. u.nodes) p.after in
       record {
         tree = f.tree;
         well = f.well;
-        was = p.was ∙ ap (λ u. plain kind.Space ∷ tokens u) (sym e) ∙ ap (λ u. plain kind.Space ∷ u) f.was;
+        was = p.was ∙ ap (λ u. kind.Space ∷ tokens u) (sym e) ∙ ap (λ u. kind.Space ∷ u) f.was;
         number = f.number ∙ ap (λ u. length u + inside f.tree) ns;
         past = f.past ∙ ap (λ u. u.past) p.after;
         opened = f.opened ∙ ap (λ u. u.opened + (inside f.tree + 1)) p.after;
@@ -341,7 +318,7 @@ module _ (levels : ℕ) (ih : Induct levels) where
         record {
           tree = unary f xs o.tree;
           well = ((ar, hd.fit), o.well);
-          was = hd.was ∙ ap (head_tokens f xs) (o.was ∙ ap (λ w. plain kind.Space ∷ tree_tokens o.tree w) c.was);
+          was = hd.was ∙ ap (head_tokens f xs) (o.was ∙ ap (λ w. kind.Space ∷ tree_tokens o.tree w) c.was);
           number = c.number ∙ ap length vn ∙ length_after s.nodes o.tree;
           past = ap (λ w. w.past) c.after_close ∙ o.past ∙ h_past;
           opened = ap (λ w. w.opened) c.after_close ∙ omega (arith, o.opened, h_opened);
@@ -359,7 +336,7 @@ module _ (levels : ℕ) (ih : Induct levels) where
         record {
           tree = binary f xs o.tree q.tree;
           well = ((ar, hd.fit), o.well, q.well);
-          was = hd.was ∙ ap (head_tokens f xs) (o.was ∙ ap (λ x. plain kind.Space ∷ tree_tokens o.tree x) (q.was ∙ ap (λ x. plain kind.Space ∷ tree_tokens q.tree x) c.was));
+          was = hd.was ∙ ap (head_tokens f xs) (o.was ∙ ap (λ x. kind.Space ∷ tree_tokens o.tree x) (q.was ∙ ap (λ x. kind.Space ∷ tree_tokens q.tree x) c.was));
           number = c.number ∙ ap length wn ∙ length_after (nodes_after s.nodes o.tree) q.tree ∙ omega (arith, length_after s.nodes o.tree);
           past = ap (λ x. x.past) c.after_close ∙ q.past ∙ o.past ∙ h_past;
           opened = ap (λ x. x.opened) c.after_close ∙ omega (arith, q.opened, o.opened, h_opened);

@@ -1,11 +1,11 @@
 -- A fault depends only on the items up to and with the one at its place.
-use Rattle.std.proofs.Common.{◌≡◌, ℕ, zero, suc, ◌+◌, Bool, true, false, cond, ◌&&◌, ltb, List, [], ◌∷◌, ◌++◌, map, length, ℤ, pos, Ok, Err, Result, sym, refl, ap, ◌∙◌, subst, inl, inr, append_assoc, arith}
+use Rattle.std.proofs.Common.{◌≡◌, ℕ, zero, suc, ◌+◌, Bool, true, false, cond, ◌&&◌, ltb, List, [], ◌∷◌, ◌++◌, map, length, ℤ, pos, Ok, Err, Result, sym, refl, ap, ◌∙◌, subst, inl, inr, append_assoc}
 use lib.Signed.{mag}
 use Rattle.items.specs.declared.item.Place.{Place}
 use Rattle.items.specs.declared.item.Form.{Form}
 use Rattle.items.specs.declared.item.Item.{Item}
 use Rattle.items.specs.declared.item.Kind.TheVariants as kind
-use Rattle.items.specs.Items.{items, end_of}
+use Rattle.items.specs.Items.{item_number, items, end_of}
 use Rattle.syntax.specs.declared.Rule.{Rule}
 use Rattle.grammar.specs.declared.fault.FaultKind.{FaultKind}
 use Rattle.grammar.specs.declared.fault.FaultKind.TheVariants as fault
@@ -44,12 +44,12 @@ module _ {W : Type 0} (F : Step W) (o a : ℕ) (n b : List Entry) (pre rest : Li
   after (ends v c d h) = ends v c d (λ p. agree rest p ∙ h p)
 
 nothing_left : (pre : List Item) (it : Item) (post : List Item) → [] ≡ pre ++ (it ∷ post) → ⊥
-nothing_left [] it post e = let z : ◌≡◌ {A = ℕ} 0 1 = cc in omega arith
-nothing_left (x ∷ pre) it post e = let z : ◌≡◌ {A = ℕ} 0 1 = cc in omega arith
+nothing_left [] it post e = cc
+nothing_left (x ∷ pre) it post e = cc
 
 nothing_before : (pre rest : List Item) → [] ≡ pre ++ rest → pre ≡ []
 nothing_before [] rest e = refl
-nothing_before (x ∷ pre) rest e = absurd (let z : ◌≡◌ {A = ℕ} 0 1 = cc in omega arith)
+nothing_before (x ∷ pre) rest e = absurd cc
 
 module _ {V W : Type 0} (F : Step V) (K : V → Step W) where
   abbrev Then : Step W
@@ -126,9 +126,9 @@ opening_way levels o n (it ∷ more) = with_count levels o n (it ∷ more) (open
 arguments_way : (ss : List Slot) (before : ℤ) → All (arguments ss before)
 arguments_way [] before o n xs = done_way [] o n xs
 arguments_way (slot ∷ more) before o n xs =
-    then_way (next (is kind.Space)) (λ _ t. then (next (argument slot before) t) (λ it u. then (arguments more it.number u) (λ its v. done (it ∷ its) v))) o n xs (space_way o n xs)
-    (λ _ o1 n1 x1. then_way (next (argument slot before)) (λ it u. then (arguments more it.number u) (λ its v. done (it ∷ its) v)) o1 n1 x1 (next_way (argument slot before) o1 n1 x1)
-    (λ it o2 n2 x2. then_way (arguments more it.number) (λ its v. done (it ∷ its) v) o2 n2 x2 (arguments_way more it.number o2 n2 x2)
+    then_way (next (is kind.Space)) (λ _ t. then (next (argument slot before) t) (λ it u. then (arguments more (item_number it) u) (λ its v. done (it ∷ its) v))) o n xs (space_way o n xs)
+    (λ _ o1 n1 x1. then_way (next (argument slot before)) (λ it u. then (arguments more (item_number it) u) (λ its v. done (it ∷ its) v)) o1 n1 x1 (next_way (argument slot before) o1 n1 x1)
+    (λ it o2 n2 x2. then_way (arguments more (item_number it)) (λ its v. done (it ∷ its) v) o2 n2 x2 (arguments_way more (item_number it) o2 n2 x2)
     (λ its. done_way (it ∷ its))))
 
 operand_way : (F : Step ℕ) → All F → All (operand F)
@@ -159,7 +159,7 @@ formula_way (suc l) o n xs =
 
 -- a rule, from its last item back
 abbrev newline_then : Item → ℕ → Step Rule
-newline_then it r s = then (next (is kind.Newline) s) (λ _ t. done (rule_of (mag it.number) r) t)
+newline_then it r s = then (next (is kind.Newline) s) (λ _ t. done (rule_of (mag (item_number it)) r) t)
 
 abbrev close_then : Item → ℕ → Step Rule
 close_then it r s = then (next (is kind.Close) s) (λ _ t. newline_then it r t)
@@ -181,8 +181,8 @@ rule_way least o n xs =
     (λ it o3 n3 x3. then_way (next (is kind.Space)) (λ _ t. formula_then it t) o3 n3 x3 (space_way o3 n3 x3)
     (λ _ o4 n4 x4. then_way (formula 12) (λ r t. close_then it r t) o4 n4 x4 (formula_way 12 o4 n4 x4)
     (λ r o5 n5 x5. then_way (next (is kind.Close)) (λ _ t. newline_then it r t) o5 n5 x5 (next_way (is kind.Close) o5 n5 x5)
-    (λ _ o6 n6 x6. then_way (next (is kind.Newline)) (λ _ t. done (rule_of (mag it.number) r) t) o6 n6 x6 (next_way (is kind.Newline) o6 n6 x6)
-    (λ _. done_way (rule_of (mag it.number) r))))))))
+    (λ _ o6 n6 x6. then_way (next (is kind.Newline)) (λ _ t. done (rule_of (mag (item_number it)) r) t) o6 n6 x6 (next_way (is kind.Newline) o6 n6 x6)
+    (λ _. done_way (rule_of (mag (item_number it)) r))))))))
 
 -- rules as far as the items go
 zero_way : (b : Bool) (it : Item) → same it.kind kind.Open ≡ b → (least o : ℕ) (n : List Entry) (more : List Item) → Way (rules 0 least) o n (it ∷ more)

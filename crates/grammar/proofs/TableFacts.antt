@@ -1,7 +1,7 @@
 -- What well-formed rules make true of their nodes and rules.
-use Rattle.std.proofs.Common.{◌≡◌, ℕ, zero, suc, ◌+◌, ◌<◌, ◌≤◌, true, cond, eqb, ltb, List, [], ◌∷◌, ◌++◌, length, pos, sym, refl, ap, subst, inl, inr, arith, le-ltb, lt-ltb, eq-eqb, ne_eqb, le-leb}
-use Rattle.std.proofs.lemmas.Bool.{and_parts}
-use Rattle.std.proofs.str.Laws.{order}
+use Rattle.std.proofs.Common.{◌≡◌, ℕ, zero, suc, ◌+◌, ◌<◌, ◌≤◌, true, cond, eqb, ltb, List, [], ◌∷◌, ◌++◌, length, pos, sym, refl, ap, subst, arith, le-ltb, lt-ltb, le-leb}
+use Rattle.std.proofs.lemmas.Bool.{and_parts, and_from}
+use Rattle.std.proofs.lemmas.Bool.Decides.{nat_tests}
 use Rattle.syntax.specs.declared.Rule.{Rule}
 use Rattle.syntax.specs.Nodes.{rooted}
 use Rattle.grammar.specs.Entries.{Entry, entry}
@@ -10,7 +10,7 @@ use Rattle.grammar.specs.Trees.{Tree, leaf, unary, binary, inside, nodes_after, 
 use Rattle.grammar.specs.Files.{Line, lines_nodes, lines_rules, formulas, WellLines}
 use Rattle.grammar.specs.Formed.{Formed}
 use Rattle.grammar.specs.Invariants.{times, all_operands, all_roots, UsedOnce, in_bounds, rising}
-use Rattle.grammar.proofs.Inversion.{length_after, and_true}
+use Rattle.grammar.proofs.Inversion.{length_after}
 
 -- as many nodes as formulas
 count : (ns : List Entry) (ls : List Line) → length (lines_nodes ns ls) ≡ length ns + formulas ls
@@ -28,14 +28,14 @@ lines_roots ns [] = refl
 lines_roots ns (l ∷ ls) =
     let all = lines_nodes (nodes_after ns l.tree) ls in
     let n = count (nodes_after ns l.tree) ls in
-    and_true _ _ (lt-ltb (length ns + inside l.tree) (length all) (omega (arith, n, length_after ns l.tree))) (lines_roots (nodes_after ns l.tree) ls)
+    and_from _ _ (lt-ltb (length ns + inside l.tree) (length all) (omega (arith, n, length_after ns l.tree))) (lines_roots (nodes_after ns l.tree) ls)
 
 -- numbers in range
 bounds_more : (ns : List Entry) (e : Entry) → in_bounds ns ≡ true → args_fit (slots e.word) (pos 0) e.args ≡ true → in_bounds (ns ++ (e ∷ [])) ≡ true
-bounds_more [] e h f = and_true _ _ f refl
+bounds_more [] e h f = and_from _ _ f refl
 bounds_more (x ∷ ns) e h f =
     let p = and_parts (args_fit (slots x.word) (pos 0) x.args) (in_bounds ns) h in
-    and_true _ _ p.0 (bounds_more ns e p.1 f)
+    and_from _ _ p.0 (bounds_more ns e p.1 f)
 
 tree_bounds : (levels : ℕ) (ns : List Entry) (tree : Tree) → Well levels tree → in_bounds ns ≡ true → in_bounds (nodes_after ns tree) ≡ true
 tree_bounds zero ns tree w h = absurd w
@@ -52,21 +52,14 @@ lines_bounds (suc k) least ns (l ∷ ls) w h = lines_bounds k (l.number + 1) (no
 lines_rising : (k least : ℕ) (ns : List Entry) (ls : List Line) → WellLines k least ls → rising least (lines_rules ns ls) ≡ true
 lines_rising k least ns [] w = refl
 lines_rising zero least ns (l ∷ ls) w = absurd w
-lines_rising (suc k) least ns (l ∷ ls) w = and_true _ _ (le-leb least l.number w.0.2) (and_true _ _ (le-leb l.number 99 w.0.1) (lines_rising k (l.number + 1) (nodes_after ns l.tree) ls w.2))
+lines_rising (suc k) least ns (l ∷ ls) w = and_from _ _ (le-leb least l.number w.0.2) (and_from _ _ (le-leb l.number 99 w.0.1) (lines_rising k (l.number + 1) (nodes_after ns l.tree) ls w.2))
 
 -- every node once: all numbers below a bound stand once among the operands and roots below it
 abbrev is_below : ℕ → ℕ → ℕ
 is_below m k = cond (ltb m k) 1 0
 
 one_more : (m k : ℕ) → cond (eqb k m) 1 0 + is_below m k ≡ is_below m (k + 1)
-one_more m k =
-    elim (order m k) [
-      | inl lt ↦ (let a = ne_eqb k m (λ e. omega arith) in let b = lt-ltb m k lt in let c = lt-ltb m (k + 1) (omega arith) in rw (a, b, c) (omega arith))
-      | inr ge ↦ elim (order k m) [
-        | inl lt ↦ (let a = ne_eqb k m (λ e. omega arith) in let b = le-ltb m k ge in let c = le-ltb m (k + 1) (omega arith) in rw (a, b, c) (omega arith))
-        | inr le ↦ (let a = eq-eqb k m (omega arith) in let b = le-ltb m k ge in let c = lt-ltb m (k + 1) (omega arith) in rw (a, b, c) (omega arith))
-      ]
-    ]
+one_more m k = grind (arith, nat_tests)
 
 times_append : (m : ℕ) (xs ys : List ℕ) → times m (xs ++ ys) ≡ times m xs + times m ys
 times_append m [] ys = omega arith

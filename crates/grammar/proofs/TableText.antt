@@ -1,8 +1,10 @@
 -- The text of a table is the text of its lines.
-use Rattle.std.proofs.Common.{◌≡◌, ℕ, zero, suc, ◌+◌, ◌<◌, List, [], ◌∷◌, ◌++◌, map, length, get_or, Some, None, codes, decimal, sym, refl, ap, ◌∙◌, subst, append_assoc, append-nil, arith, length-append}
+use Rattle.std.proofs.Common.{◌≡◌, ℕ, ◌+◌, ◌<◌, List, [], ◌∷◌, ◌++◌, map, length, get_or, Some, None, codes, decimal, sym, refl, ap, ◌∙◌, subst, append_assoc, append-nil, arith, length-append}
+use Rattle.std.proofs.lemmas.List.{get_or_append_left, get_or_push}
 use Rattle.items.specs.declared.item.Form.{Form}
 use Rattle.grammar.specs.Entries.{Arg, Entry, entry}
-use Rattle.items.specs.Tokens.{word_text, Token, token_text, spell}
+use Rattle.items.specs.declared.item.Kind.{Kind}
+use Rattle.items.specs.Tokens.{word_text, kind_text, spell}
 use Rattle.grammar.specs.TableText.{arg_text, spaced, entry_text, node_text, texts, rules_text, table_text}
 use Rattle.items.specs.Items.{items, end_of}
 use Rattle.grammar.specs.Reading.{State, done}
@@ -21,17 +23,6 @@ length_texts : (ts : List (List ℕ)) (xs : List Entry) → length (texts ts xs)
 length_texts ts [] = omega arith
 length_texts ts (x ∷ xs) = omega (arith, length_texts (ts ++ (node_text ts x ∷ [])) xs, length-append ts (node_text ts x ∷ []))
 
-at_front : (ts us : List (List ℕ)) (i : ℕ) → i < length ts → get_or (ts ++ us) i [] ≡ get_or ts i []
-at_front [] us i h = absurd (omega arith)
-at_front (t ∷ ts) us zero h = refl
-at_front (t ∷ ts) us (suc i) h = at_front ts us i (omega arith)
-
-at_last : (ts : List (List ℕ)) (t : List ℕ) (i : ℕ) → i ≡ length ts → get_or (ts ++ (t ∷ [])) i [] ≡ t
-at_last [] t zero h = refl
-at_last [] t (suc i) h = absurd (omega arith)
-at_last (u ∷ ts) t zero h = absurd (omega arith)
-at_last (u ∷ ts) t (suc i) h = at_last ts t i (omega arith)
-
 abbrev T : List Entry → List (List ℕ)
 T ns = texts [] ns
 
@@ -40,10 +31,10 @@ more : (ns : List Entry) (e : Entry) → T (ns ++ (e ∷ [])) ≡ T ns ++ (node_
 more ns e = texts_append [] ns (e ∷ [])
 
 more_front : (ns : List Entry) (e : Entry) (i : ℕ) → i < length ns → get_or (T (ns ++ (e ∷ []))) i [] ≡ get_or (T ns) i []
-more_front ns e i h = ap (λ l. get_or l i []) (more ns e) ∙ at_front (T ns) (node_text (T ns) e ∷ []) i (omega (arith, length_texts [] ns))
+more_front ns e i h = ap (λ l. get_or l i []) (more ns e) ∙ get_or_append_left (T ns) (node_text (T ns) e ∷ []) [] i (omega (arith, length_texts [] ns))
 
 more_last : (ns : List Entry) (e : Entry) (i : ℕ) → i ≡ length ns → get_or (T (ns ++ (e ∷ []))) i [] ≡ node_text (T ns) e
-more_last ns e i h = ap (λ l. get_or l i []) (more ns e) ∙ at_last (T ns) (node_text (T ns) e) i (omega (arith, length_texts [] ns))
+more_last ns e i h = ap (λ l. get_or l i []) (more ns e) ∙ get_or_push (T ns) (node_text (T ns) e) [] i (omega (arith, length_texts [] ns))
 
 tree_front : (ns : List Entry) (tree : Tree) (i : ℕ) → i < length ns → get_or (T (nodes_after ns tree)) i [] ≡ get_or (T ns) i []
 tree_front ns (leaf f xs) i h = more_front ns _ i h
@@ -66,21 +57,21 @@ tree_at ns (binary f xs a b) =
     ap (λ t. entry_text (entry f xs []) (tree_text a ∷ t ∷ [])) (tree_at (nodes_after ns a) b)
 
 -- and its items' bytes
-arg_spell : (x : Arg) → token_text (arg_token x) ≡ arg_text x
+arg_spell : (x : Arg) → kind_text (arg_token x) ≡ arg_text x
 arg_spell (Some z) = refl
 arg_spell None = refl
 
-args_spell : (xs : List Arg) (r : List Token) → spell (arg_tokens xs r) ≡ spaced (map arg_text xs) ++ spell r
+args_spell : (xs : List Arg) (r : List Kind) → spell (arg_tokens xs r) ≡ spaced (map arg_text xs) ++ spell r
 args_spell [] r = refl
 args_spell (x ∷ xs) r = ap (λ t. 32 ∷ (t ++ spell (arg_tokens xs r))) (arg_spell x) ∙ ap (λ t. 32 ∷ (arg_text x ++ t)) (args_spell xs r) ∙ ap (λ t. 32 ∷ t) (sym (append_assoc (arg_text x) (spaced (map arg_text xs)) (spell r)))
 
-head_spell : (f : Form) (xs : List Arg) (r : List Token) → spell (head_tokens f xs r) ≡ 40 ∷ (word_text f ++ (spaced (map arg_text xs) ++ spell r))
+head_spell : (f : Form) (xs : List Arg) (r : List Kind) → spell (head_tokens f xs r) ≡ 40 ∷ (word_text f ++ (spaced (map arg_text xs) ++ spell r))
 head_spell f xs r = ap (λ t. 40 ∷ (word_text f ++ t)) (args_spell xs r)
 
 closed : (f : Form) (xs : List Arg) (os : List (List ℕ)) (r : List ℕ) → 40 ∷ (word_text f ++ (spaced (map arg_text xs) ++ (spaced os ++ (41 ∷ r)))) ≡ entry_text (entry f xs []) os ++ r
 closed f xs os r = simp append_assoc
 
-tree_spell : (tree : Tree) (r : List Token) → spell (tree_tokens tree r) ≡ tree_text tree ++ spell r
+tree_spell : (tree : Tree) (r : List Kind) → spell (tree_tokens tree r) ≡ tree_text tree ++ spell r
 tree_spell (leaf f xs) r = head_spell f xs _ ∙ closed f xs [] (spell r)
 tree_spell (unary f xs a) r =
     head_spell f xs _ ∙ ap (λ t. 40 ∷ (word_text f ++ (spaced (map arg_text xs) ++ (32 ∷ t)))) (tree_spell a _) ∙ one f xs (tree_text a) (spell r)

@@ -7,7 +7,9 @@ use Rattle.grammar.specs.declared.shape.Slot.TheVariants.{Upper}
 use Rattle.syntax.specs.declared.Rule.{Rule}
 use Rattle.grammar.specs.Entries.{Entry}
 use Rattle.grammar.specs.Reading.{State, Outcome, Step, done, stop, then, next, is, argument, fault_at, formula}
-use Rattle.items.specs.Tokens.{Token, plain, number, spell}
+use Rattle.items.specs.declared.item.Kind.{Kind}
+use Rattle.items.specs.Items.{item_number}
+use Rattle.items.specs.Tokens.{spell}
 use Rattle.grammar.specs.Trees.{Tree, tree_tokens, inside, nodes_after, Well}
 use Rattle.items.specs.declared.item.Kind.TheVariants as kind
 use Rattle.grammar.specs.declared.fault.FaultKind.TheVariants as fault
@@ -27,7 +29,7 @@ rule_opening before s = then (next (is kind.Open) s) (λ _ t. cond (nat_lt befor
 -- after the opening bracket: the word, the number, the formula, the closing bracket and the newline
 abbrev pub rule : ℕ → Step Rule
 rule least s =
-    then (next (is kind.Rule) s) (λ _ t. then (next (is kind.Space) t) (λ _ u. then (rule_number least u) (λ it v. then (next (is kind.Space) v) (λ _ w. then (formula 12 w) (λ n x. then (next (is kind.Close) x) (λ _ y. then (next (is kind.Newline) y) (λ _ z. done (rule_of (mag it.number) n) z)))))))
+    then (next (is kind.Rule) s) (λ _ t. then (next (is kind.Space) t) (λ _ u. then (rule_number least u) (λ it v. then (next (is kind.Space) v) (λ _ w. then (formula 12 w) (λ n x. then (next (is kind.Close) x) (λ _ y. then (next (is kind.Newline) y) (λ _ z. done (rule_of (mag (item_number it)) n) z)))))))
 
 -- one outcome at the end of the items, another before it
 abbrev pub at_end : {V : Type 0} → List Item → Outcome V → Outcome V → Outcome V
@@ -56,10 +58,10 @@ pub record Line : Type 0 where
   pub number : ℕ
   pub tree : Tree
 
-abbrev pub line_tokens : Line → List Token → List Token
-line_tokens l r = plain kind.Open ∷ plain kind.Rule ∷ plain kind.Space ∷ number (pos l.number) ∷ plain kind.Space ∷ tree_tokens l.tree (plain kind.Close ∷ plain kind.Newline ∷ r)
+abbrev pub line_tokens : Line → List Kind → List Kind
+line_tokens l r = kind.Open ∷ kind.Rule ∷ kind.Space ∷ kind.Number (pos l.number) ∷ kind.Space ∷ tree_tokens l.tree (kind.Close ∷ kind.Newline ∷ r)
 
-abbrev pub lines_tokens : List Line → List Token
+abbrev pub lines_tokens : List Line → List Kind
 lines_tokens [] = []
 lines_tokens (l ∷ ls) = line_tokens l (lines_tokens ls)
 

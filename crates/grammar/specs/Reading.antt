@@ -4,6 +4,7 @@ use Rattle.items.specs.declared.item.Place.{Place}
 use Rattle.items.specs.declared.item.Form.{Form}
 use Rattle.items.specs.declared.item.Kind.{Kind}
 use Rattle.items.specs.declared.item.Item.{Item}
+use Rattle.items.specs.Items.{item_number}
 use Rattle.items.specs.Cursors.{place_of}
 use Rattle.grammar.specs.declared.fault.FaultKind.{FaultKind}
 use Rattle.grammar.specs.declared.fault.ReadFault.{ReadFault as Fault}
@@ -41,7 +42,7 @@ fault_at s k = record { kind = k; place = place_of s.rest s.past }
 abbrev pub left : State → List Item → State
 left s items = record { rest = items; past = s.past; opened = s.opened; nodes = s.nodes }
 
--- two kinds that differ at most in the form
+-- two kinds that differ at most in the form or the number
 abbrev pub rank : Kind → ℕ
 rank kind.Open = 0
 rank kind.Close = 1
@@ -50,7 +51,7 @@ rank kind.Newline = 3
 rank kind.Rule = 4
 rank kind.End = 5
 rank (kind.Form _) = 6
-rank kind.Number = 7
+rank (kind.Number _) = 7
 rank kind.Misspelt = 8
 rank kind.Other = 9
 
@@ -83,17 +84,17 @@ form_of kind.Newline = Err fault.Misfit
 form_of kind.Rule = Err fault.Misfit
 form_of kind.End = Err fault.Misfit
 form_of (kind.Form f) = Ok f
-form_of kind.Number = Err fault.Misfit
+form_of (kind.Number z) = Err fault.Misfit
 form_of kind.Misspelt = Err fault.Misfit
 form_of kind.Other = Err fault.Misfit
 
 abbrev pub within : ℤ → ℤ → Test Item
-within low high it = cond (int_le low it.number && int_le it.number high) (Ok it) (Err fault.BadNumber)
+within low high it = cond (int_le low (item_number it) && int_le (item_number it) high) (Ok it) (Err fault.BadNumber)
 
 -- and not below the number before it
 abbrev pub rising : ℤ → ℤ → ℤ → Test Item
 rising low high before it =
-    cond (int_le low it.number && int_le it.number high) (cond (int_le before it.number) (Ok it) (Err fault.Unordered)) (Err fault.BadNumber)
+    cond (int_le low (item_number it) && int_le (item_number it) high) (cond (int_le before (item_number it)) (Ok it) (Err fault.Unordered)) (Err fault.BadNumber)
 
 abbrev pub ranged : Slot → ℤ → Test Item
 ranged (Range low high) before = within low high
@@ -107,7 +108,7 @@ may_end (UpperOrEnd _ _) = true
 
 abbrev pub argument : Slot → ℤ → Test Item
 argument slot before it =
-    cond (same it.kind kind.Number) (ranged slot before it)
+    cond (same it.kind (kind.Number (pos 0))) (ranged slot before it)
     (cond (same it.kind kind.Misspelt) (Err fault.BadNumber)
     (cond (same it.kind kind.End && may_end slot) (Ok it) (Err fault.Misfit)))
 
@@ -115,7 +116,7 @@ argument slot before it =
 abbrev pub arguments : List Slot → ℤ → Step (List Item)
 arguments [] before s = done [] s
 arguments (slot ∷ more) before s =
-    then (next (is kind.Space) s) (λ _ t. then (next (argument slot before) t) (λ it u. then (arguments more it.number u) (λ its v. done (it ∷ its) v)))
+    then (next (is kind.Space) s) (λ _ t. then (next (argument slot before) t) (λ it u. then (arguments more (item_number it) u) (λ its v. done (it ∷ its) v)))
 
 -- a space and a formula
 abbrev pub operand : Step ℕ → Step ℕ
@@ -138,7 +139,7 @@ opening levels s =
     then (next (is kind.Open) s) (λ _ t. cond (nat_lt 0 levels && nat_lt s.opened 64) (next word (counted t)) (stop (fault_at s fault.TooMany)))
 
 abbrev pub arg : Item → Arg
-arg it = cond (same it.kind kind.End) None (Some it.number)
+arg it = cond (same it.kind kind.End) None (Some (item_number it))
 
 abbrev pub pushed : Entry → State → State
 pushed e s = record { rest = s.rest; past = s.past; opened = s.opened; nodes = s.nodes ++ (e ∷ []) }

@@ -1,5 +1,5 @@
 -- The text of a table, from its nodes and rules.
-use Rattle.std.specs.Prelude.{ℕ, List, [], ◌∷◌, ◌++◌, map, get_or, Some, None, codes, decimal, slice_index_or}
+use Rattle.std.specs.Prelude.{ℕ, List, [], ◌∷◌, ◌++◌, map, Some, None, codes, decimal, slice_index_or}
 use Rattle.std.specs.Fmt.{signed_decimal}
 use Rattle.syntax.specs.declared.Rule.{Rule}
 use Rattle.items.specs.Tokens.{word_text}
@@ -20,7 +20,7 @@ entry_text e operands = codes "(" ++ (word_text e.word ++ (spaced (map arg_text 
 
 -- a node's text, from the texts of the nodes before it
 abbrev pub node_text : List (List ℕ) → Entry → List ℕ
-node_text ts e = entry_text e (map (λ n. get_or ts n []) e.operands)
+node_text ts e = entry_text e (map (λ n. slice_index_or ts n []) e.operands)
 
 -- the texts of nodes, after those that stand already
 abbrev pub texts : List (List ℕ) → List Entry → List (List ℕ)

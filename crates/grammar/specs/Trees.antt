@@ -1,7 +1,7 @@
 -- Formulas as trees: their items, their nodes and when they are well formed.
 use Rattle.std.specs.Prelude.{◌≡◌, ℕ, zero, suc, ◌+◌, Bool, true, false, ◌&&◌, List, [], ◌∷◌, ◌++◌, length, ℤ, pos, Some, None, int_le}
 use Rattle.items.specs.declared.item.Form.{Form}
-use Rattle.items.specs.Tokens.{Token, plain, number}
+use Rattle.items.specs.declared.item.Kind.{Kind}
 use Rattle.grammar.specs.declared.shape.Slot.{Slot}
 use Rattle.grammar.specs.declared.shape.Slot.TheVariants.{Range, Upper, UpperOrEnd}
 use Rattle.grammar.specs.declared.shape.Arity.{Arity}
@@ -16,24 +16,24 @@ pub data Tree : Type 0 where
   unary : Form → List Arg → Tree → Tree
   binary : Form → List Arg → Tree → Tree → Tree
 
-abbrev pub arg_token : Arg → Token
-arg_token (Some z) = number z
-arg_token None = plain kind.End
+abbrev pub arg_token : Arg → Kind
+arg_token (Some z) = kind.Number z
+arg_token None = kind.End
 
 -- each after a space, in front of what follows
-abbrev pub arg_tokens : List Arg → List Token → List Token
+abbrev pub arg_tokens : List Arg → List Kind → List Kind
 arg_tokens [] r = r
-arg_tokens (x ∷ xs) r = plain kind.Space ∷ arg_token x ∷ arg_tokens xs r
+arg_tokens (x ∷ xs) r = kind.Space ∷ arg_token x ∷ arg_tokens xs r
 
 -- the opening bracket, the word and the arguments
-abbrev pub head_tokens : Form → List Arg → List Token → List Token
-head_tokens f xs r = plain kind.Open ∷ plain (kind.Form f) ∷ arg_tokens xs r
+abbrev pub head_tokens : Form → List Arg → List Kind → List Kind
+head_tokens f xs r = kind.Open ∷ kind.Form f ∷ arg_tokens xs r
 
 -- the items of a formula, in front of what follows
-abbrev pub tree_tokens : Tree → List Token → List Token
-tree_tokens (leaf f xs) r = head_tokens f xs (plain kind.Close ∷ r)
-tree_tokens (unary f xs a) r = head_tokens f xs (plain kind.Space ∷ tree_tokens a (plain kind.Close ∷ r))
-tree_tokens (binary f xs a b) r = head_tokens f xs (plain kind.Space ∷ tree_tokens a (plain kind.Space ∷ tree_tokens b (plain kind.Close ∷ r)))
+abbrev pub tree_tokens : Tree → List Kind → List Kind
+tree_tokens (leaf f xs) r = head_tokens f xs (kind.Close ∷ r)
+tree_tokens (unary f xs a) r = head_tokens f xs (kind.Space ∷ tree_tokens a (kind.Close ∷ r))
+tree_tokens (binary f xs a b) r = head_tokens f xs (kind.Space ∷ tree_tokens a (kind.Space ∷ tree_tokens b (kind.Close ∷ r)))
 
 -- how many formulas are inside
 abbrev pub inside : Tree → ℕ

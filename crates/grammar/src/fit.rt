@@ -9,7 +9,7 @@ use items::item::{Item, Kind};
 fn within(low: i64, high: i64, item: Item) -> Result<Item, FaultKind>
     ensures { result ≡ in_range low high item }
 {
-    if low <= item.number && item.number <= high {
+    if (low..=high).contains(&item.number()) {
         Ok(item)
     } else {
         Err(FaultKind::BadNumber)
@@ -20,20 +20,19 @@ fn within(low: i64, high: i64, item: Item) -> Result<Item, FaultKind>
 fn rising(low: i64, high: i64, before: i64, item: Item) -> Result<Item, FaultKind>
     ensures { result ≡ in-range-from low high before item }
 {
-    if low <= item.number && item.number <= high {
-        if before <= item.number {
-            Ok(item)
-        } else {
-            Err(FaultKind::Unordered)
-        }
+    within(low, high, item)?;
+    if before <= item.number() {
+        Ok(item)
     } else {
-        Err(FaultKind::BadNumber)
+        Err(FaultKind::Unordered)
     }
 }
 
 fn ranged(slot: Slot, before: i64, item: Item) -> Result<Item, FaultKind>
     ensures { result ≡ in-its-range slot before item }
 {
+    // Stays: tried `Slot::Upper(low, high) | Slot::UpperOrEnd(low, high)`; the check makes no proof for an i64 that two
+    // variants of one arm bind.
     match slot {
         Slot::Range(low, high) => within(low, high, item),
         Slot::Upper(low, high) => rising(low, high, before, item),
@@ -45,13 +44,10 @@ fn ranged(slot: Slot, before: i64, item: Item) -> Result<Item, FaultKind>
 pub fn fit(slot: Slot, before: i64, item: Item) -> Result<Item, FaultKind>
     ensures { result ≡ fits_slot slot before item }
 {
-    match item.kind {
-        Kind::Number => ranged(slot, before, item),
-        Kind::Misspelt => Err(FaultKind::BadNumber),
-        Kind::End => match slot {
-            Slot::UpperOrEnd(_, _) => Ok(item),
-            Slot::Range(_, _) | Slot::Upper(_, _) => Err(FaultKind::Misfit),
-        },
+    match (item.kind, slot) {
+        (Kind::Number(_), _) => ranged(slot, before, item),
+        (Kind::Misspelt, _) => Err(FaultKind::BadNumber),
+        (Kind::End, Slot::UpperOrEnd(_, _)) => Ok(item),
         _ => Err(FaultKind::Misfit),
     }
 }

@@ -9,12 +9,6 @@ impl FaultKind {
     pub fn number(self) -> u8
         ensures { result ≡ fault_number self }
     {
-        match self {
-            FaultKind::Misfit => 11,
-            FaultKind::BadNumber => 12,
-            FaultKind::Unordered => 13,
-            FaultKind::TooMany => 14,
-            FaultKind::Empty => 15,
-        }
+        self as u8
     }
 }

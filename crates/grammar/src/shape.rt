@@ -1,7 +1,7 @@
 //! What follows the word of a form.
 
 /// An argument of a form.
-#[derive(Clone, Copy)]
+#[derive(Clone, Copy, PartialEq, Eq, Debug)]
 pub enum Slot {
     /// A number in this range.
     Range(i64, i64),
@@ -12,7 +12,7 @@ pub enum Slot {
 }
 
 /// How many formulas a form has.
-#[derive(Clone, Copy)]
+#[derive(Clone, Copy, PartialEq, Eq, Debug)]
 pub enum Arity {
     Zero,
     One,

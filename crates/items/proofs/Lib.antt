@@ -1,6 +1,6 @@
 pub mod Tests
+pub mod Words
 pub mod Runs
-pub mod Numbers
 pub mod Numerals
 pub mod Spelling
 pub mod CutAgain

@@ -1,15 +1,13 @@
 -- A number's one spelling is read as it, and nothing else is.
 use Rattle.std.proofs.Common.{◌≡◌, ℕ, zero, suc, ◌+◌, ◌-◌, ◌*◌, ◌^◌, ◌<◌, ◌≤◌, Bool, true, false, cond, ◌&&◌, eqb, leb, List, [], ◌∷◌, length, get_or, ℤ, pos, negsuc, Some, None, decimal, Option, sym, refl, ap, ◌∙◌, arith, rules, ne_eqb, eqb-true, le-leb, leb-true}
-use borrow.Author.Tests.{lt-leb, eqb-false}
 use lib.Signed.{mag}
-use Rattle.std.proofs.lemmas.Bool.{and_parts}
+use Rattle.std.proofs.lemmas.Bool.{and_parts, and_from, eqb-false}
 use Rattle.std.proofs.lemmas.Str.Parse.{IsNumeralModel, numerals_by_fold}
 use Rattle.std.proofs.lemmas.Fmt.{decimal-digits_value, digits_decimal, digits_value-decimal, first_decimal, decimal_nonempty, decimal_digit}
 use Rattle.std.specs.Fmt.{signed_decimal}
 use Rattle.items.specs.declared.cut.Class.{Class}
 use Rattle.items.specs.declared.cut.Class.TheVariants as class
 use Rattle.items.specs.Items.{class_of, between, digit_after, read_on, zero_alone, natural, plain, minus, number_of}
-use Rattle.items.proofs.Numbers.{digit}
 
 abbrev value_on : ℕ → List ℕ → ℕ
 value_on n [] = n
@@ -22,15 +20,20 @@ digits (d ∷ ds) = between 48 57 d && digits ds
 own : IsNumeralModel (λ ds. digits ds ≡ true) (value_on 0)
 own = numerals_by_fold _ (search rules) value_on (search rules)
 
-none_some : {A : Type 0} {x : A} → ◌≡◌ {A = Option A} None (Some x) → ⊥
-none_some h = let z : ◌≡◌ {A = ℕ} 0 1 = cc in omega arith
-
-and_true : (a b : Bool) → a ≡ true → b ≡ true → a && b ≡ true
-and_true a b p q = rw (p, q)
-
 -- the numbers that can be spelt
 abbrev pub most : ℕ
 most = 1000000009
+
+record Digit (n d : ℕ) : Type 0 where
+  low : 48 ≤ d
+  high : d ≤ 57
+  few : n ≤ 100000000
+
+digit : (n d : ℕ) → digit_after n d ≡ true → Digit n d
+digit n d h =
+    let a = and_parts (between 48 57 d) (leb n 100000000) h in
+    let b = and_parts (leb 48 d) (leb d 57) a.0 in
+    record { low = leb-true 48 d b.0; high = leb-true d 57 b.1; few = leb-true n 100000000 a.1 }
 
 record Spelt (n : ℕ) (ds : List ℕ) (m : ℕ) : Type 0 where
   all : digits ds ≡ true
@@ -39,7 +42,7 @@ record Spelt (n : ℕ) (ds : List ℕ) (m : ℕ) : Type 0 where
 
 mutual_read : (b : Bool) (n d : ℕ) (ds : List ℕ) (m : ℕ) → digit_after n d ≡ b → cond b (read_on (n * 10 + (d - 48)) ds) None ≡ Some m → (b ≡ true) × (read_on (n * 10 + (d - 48)) ds ≡ Some m)
 mutual_read true n d ds m e h = (refl, h)
-mutual_read false n d ds m e h = absurd (none_some h)
+mutual_read false n d ds m e h = absurd cc
 
 read_on_sound : (ds : List ℕ) (n m : ℕ) → n ≤ most → read_on n ds ≡ Some m → Spelt n ds m
 read_on_sound [] n m le h =
@@ -50,7 +53,7 @@ read_on_sound (d ∷ ds) n m le h =
     let g = digit n d p.0 in
     let r = read_on_sound ds (n * 10 + (d - 48)) m (omega (arith, g.low, g.high, g.few)) p.1 in
     let q = and_parts (between 48 57 d) (leb n 100000000) p.0 in
-    record { all = and_true _ _ q.0 r.all; is = r.is; small = r.small }
+    record { all = and_from _ _ q.0 r.all; is = r.is; small = r.small }
 
 at_least : (ds : List ℕ) (n : ℕ) → n ≤ value_on n ds
 at_least [] n = omega arith
@@ -61,13 +64,13 @@ read_on_complete [] n h le = refl
 read_on_complete (d ∷ ds) n h le =
     let p = and_parts (between 48 57 d) (digits ds) h in
     let few : n ≤ 100000000 = omega (arith, at_least ds (n * 10 + (d - 48))) in
-    let t = and_true _ _ p.0 (le-leb n 100000000 few) in
+    let t = and_from _ _ p.0 (le-leb n 100000000 few) in
     ap (λ b. cond b (read_on (n * 10 + (d - 48)) ds) None) t ∙ read_on_complete ds (n * 10 + (d - 48)) p.1 le
 
 -- digits with no leading zero
 zero_sound : (ds : List ℕ) (n : ℕ) → zero_alone ds ≡ Some n → (ds ≡ []) × (n ≡ 0)
 zero_sound [] n h = (refl, cc)
-zero_sound (d ∷ ds) n h = absurd (none_some h)
+zero_sound (d ∷ ds) n h = absurd cc
 
 zero_text : decimal 0 ≡ 48 ∷ []
 zero_text = decimal_digit 0 (omega arith)
@@ -82,7 +85,7 @@ natural_by false d ds n e h =
     (ap decimal r.is ∙ decimal-digits_value own (d ∷ ds) r.all (omega arith) (λ z. absurd (eqb-false d 48 e z)) (omega (arith, r.is, r.small)), r.small)
 
 pub natural_sound : (ds : List ℕ) (n : ℕ) → natural ds ≡ Some n → (decimal n ≡ ds) × (n ≤ most)
-natural_sound [] n h = absurd (none_some h)
+natural_sound [] n h = absurd cc
 natural_sound (d ∷ ds) n h = natural_by (eqb d 48) d ds n refl h
 
 natural_from : (ds : List ℕ) → digits ds ≡ true → 48 < get_or ds 0 0 → value_on 0 ds ≤ most → natural ds ≡ Some (value_on 0 ds)
@@ -99,12 +102,12 @@ natural_complete (suc n) le =
     natural_from (decimal (suc n)) (digits_decimal own (suc n) small) (first_decimal (suc n) (omega arith) small) (omega (arith, v)) ∙ ap Some v
 
 plain_sound : (o : Option ℕ) (z : ℤ) → plain o ≡ Some z → (n : ℕ) × (o ≡ Some n) × (z ≡ pos n)
-plain_sound None z h = absurd (none_some h)
+plain_sound None z h = absurd cc
 plain_sound (Some n) z h = (n, refl, cc)
 
 minus_sound : (o : Option ℕ) (z : ℤ) → minus o ≡ Some z → (n : ℕ) × (o ≡ Some (suc n)) × (z ≡ negsuc n)
-minus_sound None z h = absurd (none_some h)
-minus_sound (Some zero) z h = absurd (none_some h)
+minus_sound None z h = absurd cc
+minus_sound (Some zero) z h = absurd cc
 minus_sound (Some (suc n)) z h =
     let e : eqb (suc n) 0 ≡ false = ne_eqb (suc n) 0 (λ q. omega arith) in
     let k : ◌≡◌ {A = Option ℤ} (Some (negsuc n)) (Some z) = sym (ap (λ b. cond b None (Some (negsuc n))) e) ∙ h in
@@ -122,7 +125,7 @@ number_by false d ds z e h =
 
 -- a run that spells a number is the number's text
 pub number_sound : (run : List ℕ) (z : ℤ) → number_of run ≡ Some z → signed_decimal z ≡ run
-number_sound [] z h = absurd (none_some h)
+number_sound [] z h = absurd cc
 number_sound (d ∷ ds) z h = number_by (eqb d 45) d ds z refl h
 
 plain_from : (ds : List ℕ) → 48 ≤ get_or ds 0 0 → number_of ds ≡ plain (natural ds)
@@ -148,16 +151,7 @@ All-class k [] = Unit {0}
 All-class k (b ∷ bs) = (class_of b ≡ k) × All-class k bs
 
 digit_class : (b : ℕ) → between 48 57 b ≡ true → class_of b ≡ class.Digit
-digit_class b h =
-    let p = and_parts (leb 48 b) (leb b 57) h in
-    let low : 48 ≤ b = leb-true 48 b p.0 in
-    let high : b ≤ 57 = leb-true b 57 p.1 in
-    let a = ne_eqb b 40 (λ e. omega arith) in
-    let c = ne_eqb b 41 (λ e. omega arith) in
-    let d = ne_eqb b 32 (λ e. omega arith) in
-    let e = ne_eqb b 10 (λ e. omega arith) in
-    let f : leb 97 b ≡ false = lt-leb 97 b (omega arith) in
-    rw (a, c, d, e, f, p.0, p.1)
+digit_class b h = grind arith
 
 digits_class : (ds : List ℕ) → digits ds ≡ true → All-class class.Digit ds
 digits_class [] h = tt

@@ -1,14 +1,11 @@
 -- The first run of a text.
-use Rattle.std.proofs.Common.{◌≡◌, ℕ, zero, suc, ◌+◌, ◌-◌, ◌<◌, ◌≤◌, true, false, cond, List, [], ◌∷◌, length, get_or, take, drop, refl, subst, inl, inr, arith}
-use Rattle.std.proofs.str.Laws.{order}
+use Rattle.std.proofs.Common.{◌≡◌, ℕ, suc, ◌+◌, ◌-◌, ◌<◌, ◌≤◌, Bool, true, false, cond, List, [], ◌∷◌, length, take, drop, refl, ap, ◌∙◌, subst, arith}
+use Rattle.std.proofs.lemmas.List.{take_all}
+use Rattle.std.proofs.lemmas.List.Folds.{length-prefix_len}
+use Rattle.std.specs.List.{prefix_len, take_while, zip}
 use Rattle.items.specs.Items.{joins, before, runs}
 
 -- a text's first run begins with its first byte
-record Begins (y : ℕ) (ys : List ℕ) : Type 0 where
-  cs : List ℕ
-  rs : List (List ℕ)
-  is : runs (y ∷ ys) ≡ (y ∷ cs) ∷ rs
-
 begins_before : (y : ℕ) (bss : List (List ℕ)) → (cs : List ℕ) × (rs : List (List ℕ)) × (before y bss ≡ (y ∷ cs) ∷ rs)
 begins_before y [] = ([], [], refl)
 begins_before y ([] ∷ rs) = ([], rs, refl)
@@ -23,26 +20,32 @@ alone x (y ∷ ys) h =
     let no = h y ys refl in
     rw (b.2, no)
 
--- each of the first n bytes joins the next
-abbrev pub Chain : List ℕ → ℕ → Type 0
-Chain xs n = (i : ℕ) → suc i < n → joins (get_or xs i 0) (get_or xs (suc i) 0) ≡ true
+-- how many bytes from the front on join the next
+abbrev joining : List ℕ → ℕ
+joining xs = prefix_len (λ p. joins p.0 p.1) (zip xs (drop 1 xs))
 
--- a chain that cannot be longer is the first run
-pub front : (n : ℕ) (xs : List ℕ) → suc n ≤ length xs → Chain xs (suc n) → (suc n < length xs → joins (get_or xs n 0) (get_or xs (suc n) 0) ≡ false) → runs xs ≡ take (suc n) xs ∷ runs (drop (suc n) xs)
-front n [] within chain stop = absurd (omega arith)
-front zero (x ∷ ys) within chain stop = alone x ys (λ y zs e. subst (λ (l : List ℕ). 1 < length (x ∷ l) → joins x (get_or l 0 0) ≡ false) e stop (omega arith))
-front (suc m) (x ∷ []) within chain stop = absurd (omega arith)
-front (suc m) (x ∷ y ∷ zs) within chain stop =
-    let rest = front m (y ∷ zs) (omega arith) (λ i lt. chain (suc i) (omega arith)) (λ lt. stop (omega arith)) in
-    let yes = chain 0 (omega arith) in
-    rw (rest, yes)
+-- a length of the first run
+pub record First (xs : List ℕ) (n : ℕ) : Type 0 where
+  pub within : n ≤ length xs
+  pub front : runs xs ≡ take n xs ∷ runs (drop n xs)
 
-pub chain_more : (xs : List ℕ) (n : ℕ) → 0 < n → Chain xs n → joins (get_or xs (n - 1) 0) (get_or xs n 0) ≡ true → Chain xs (n + 1)
-chain_more xs n some h e i lt =
-    elim (order (suc i) n) [ inl less ↦ h i less | inr same ↦ (let is : n ≡ suc i = omega arith in let back : n - 1 ≡ i = omega arith in subst (λ k. joins (get_or xs i 0) (get_or xs k 0) ≡ true) is (subst (λ k. joins (get_or xs k 0) (get_or xs n 0) ≡ true) back e)) ]
+first_by : (t : Bool) (x y : ℕ) (ys : List ℕ) (n : ℕ) → First (y ∷ ys) (suc n) → joins x y ≡ t → First (x ∷ y ∷ ys) (suc (cond t (1 + n) 0))
+first_by true x y ys n h e =
+    let one : 1 + n ≡ suc n = omega arith in
+    record { within = omega (arith, h.within); front = rw (one, h.front, e) }
+first_by false x y ys n h e = record { within = omega arith; front = rw (h.front, e) }
 
-pub front_at : (n : ℕ) (xs : List ℕ) → 0 < n → n ≤ length xs → Chain xs n → (n < length xs → joins (get_or xs (n - 1) 0) (get_or xs n 0) ≡ false) → runs xs ≡ take n xs ∷ runs (drop n xs)
-front_at zero xs some within chain stop = absurd (omega arith)
-front_at (suc n) xs some within chain stop =
-    let back : suc n - 1 ≡ n = omega arith in
-    front n xs within chain (λ lt. subst (λ k. joins (get_or xs k 0) (get_or xs (suc n) 0) ≡ false) back (stop lt))
+-- these bytes and the one after them are the first run
+first_run : (xs : List ℕ) → 0 < length xs → First xs (suc (joining xs))
+first_run [] h = absurd (omega arith)
+first_run (x ∷ []) h = record { within = omega arith; front = refl }
+first_run (x ∷ y ∷ ys) h = first_by (joins x y) x y ys (joining (y ∷ ys)) (first_run (y ∷ ys) (omega arith)) refl
+
+pub first : (xs : List ℕ) (n : ℕ) → 0 < length xs → n ≡ length (take_while (λ p. joins p.0 p.1) (zip xs (take (length xs - 1) (drop 1 xs)))) → First xs (1 + n)
+first [] n h e = absurd (omega arith)
+first (x ∷ xs) n h e =
+    let all : take (suc (length xs) - 1) xs ≡ xs = take_all _ xs (omega arith) in
+    let test : ℕ × ℕ → Bool = λ p. joins p.0 p.1 in
+    let k : n ≡ joining (x ∷ xs) = e ∙ length-prefix_len test (zip (x ∷ xs) (take (suc (length xs) - 1) xs)) ∙ ap (λ ys. prefix_len test (zip (x ∷ xs) ys)) all in
+    let s : suc (joining (x ∷ xs)) ≡ 1 + n = omega (arith, k) in
+    subst (First (x ∷ xs)) s (first_run (x ∷ xs) h)

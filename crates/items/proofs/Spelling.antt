@@ -1,7 +1,8 @@
 -- Items and their bytes: a text is the bytes of its items, and their bytes are cut into them again.
-use Rattle.std.proofs.Common.{◌≡◌, ℕ, ◌<◌, Bool, true, false, cond, eqb, ◌⊎◌, List, [], ◌∷◌, ◌++◌, ℤ, pos, Some, None, codes, Option, sym, refl, ap, ◌∙◌, subst, inl, inr, arith, eqb-true}
+use Rattle.std.proofs.Common.{◌≡◌, ℕ, ◌<◌, Bool, true, false, cond, ◌⊎◌, List, [], ◌∷◌, ◌++◌, ℤ, Some, None, codes, Option, sym, refl, ap, ◌∙◌, subst, inl, inr, arith, rules}
 use lib.Signed.{mag}
-use Rattle.std.proofs.lemmas.Bool.{and_parts}
+use Rattle.std.proofs.lemmas.Bool.{false≢true}
+use Rattle.std.proofs.lemmas.Slice.Eq.{bytes_eq-Decides}
 use Rattle.std.specs.Str.{bytes_eq}
 use Rattle.items.specs.declared.item.Place.{Place}
 use Rattle.items.specs.declared.item.Form.{Form}
@@ -9,31 +10,25 @@ use Rattle.items.specs.declared.item.Kind.{Kind}
 use Rattle.items.specs.declared.item.Kind.TheVariants as kind
 use Rattle.items.specs.declared.cut.Class.{Class}
 use Rattle.items.specs.declared.cut.Class.TheVariants as class
-use Rattle.items.specs.Items.{letter, digit, class_of, is_letter, is_digit, joins, before, runs, past, query_words, connective_words, future_words, past_words, look_up, or_else, form_word, form_kind, number_of, spelt, by_class, item_of, items_from, items, start}
+use Rattle.items.specs.Items.{class_of, is_letter, is_digit, joins, before, runs, past, query_words, connective_words, future_words, past_words, look_up, or_else, form_word, form_kind, number_of, spelt, by_class, kind_of, items_from, items, start}
 use Rattle.items.specs.Tokens.{word_text}
-use Rattle.items.specs.Tokens.{Token, plain, number, token_of, token, tokens}
-use Rattle.items.specs.Tokens.{token_text, spell}
-use Rattle.items.proofs.Tests.{apart}
+use Rattle.items.specs.Tokens.{tokens, kind_text, spell}
 use Rattle.items.proofs.Numerals.{most, number_sound}
 
 -- an item that has a text
-abbrev pub SpelledKind : Kind → Type 0
-SpelledKind kind.Open = Unit {0}
-SpelledKind kind.Close = Unit {0}
-SpelledKind kind.Space = Unit {0}
-SpelledKind kind.Newline = Unit {0}
-SpelledKind kind.Rule = Unit {0}
-SpelledKind kind.End = Unit {0}
-SpelledKind (kind.Form f) = Unit {0}
-SpelledKind kind.Number = ⊥
-SpelledKind kind.Misspelt = ⊥
-SpelledKind kind.Other = ⊥
+abbrev pub Spelled : Kind → Type 0
+Spelled kind.Open = Unit {0}
+Spelled kind.Close = Unit {0}
+Spelled kind.Space = Unit {0}
+Spelled kind.Newline = Unit {0}
+Spelled kind.Rule = Unit {0}
+Spelled kind.End = Unit {0}
+Spelled (kind.Form f) = Unit {0}
+Spelled (kind.Number z) = mag z < most
+Spelled kind.Misspelt = ⊥
+Spelled kind.Other = ⊥
 
-abbrev pub Spelled : Token → Type 0
-Spelled (plain k) = SpelledKind k
-Spelled (number z) = mag z < most
-
-abbrev pub All-spelled : List Token → Type 0
+abbrev pub All-spelled : List Kind → Type 0
 All-spelled [] = Unit {0}
 All-spelled (x ∷ xs) = Spelled x × All-spelled xs
 
@@ -78,45 +73,23 @@ Means class.Letter b = Unit {0}
 Means class.Digit b = Unit {0}
 Means class.Other b = Unit {0}
 
-means_by : (b : ℕ) (t u v w x y : Bool) → eqb b 40 ≡ t → eqb b 41 ≡ u → eqb b 32 ≡ v → eqb b 10 ≡ w → Means (cond t class.Open (cond u class.Close (cond v class.Space (cond w class.Newline (cond x class.Letter (cond y class.Digit class.Other)))))) b
-means_by b true u v w x y p q r s = eqb-true b 40 p
-means_by b false true v w x y p q r s = eqb-true b 41 q
-means_by b false false true w x y p q r s = eqb-true b 32 r
-means_by b false false false true x y p q r s = eqb-true b 10 s
-means_by b false false false false true y p q r s = tt
-means_by b false false false false false true p q r s = tt
-means_by b false false false false false false p q r s = tt
-
 means : (b : ℕ) → Means (class_of b) b
-means b = means_by b (eqb b 40) (eqb b 41) (eqb b 32) (eqb b 10) (letter b) (digit b) refl refl refl refl
+means b = search rules
 
 -- a byte that joins nothing is a run by itself
 pub no_join : (b c : ℕ) (k : Class) → class_of b ≡ k → is_letter k ≡ false → is_digit k ≡ false → joins b c ≡ false
-no_join b c k e l d =
-    let p : is_letter (class_of b) ≡ false = ap is_letter e ∙ l in
-    let q : is_digit (class_of b) ≡ false = ap is_digit e ∙ d in
-    rw (p, q)
+no_join b c k e l d = grind arith
 
 single : (b : ℕ) (bs : List ℕ) (k : Class) → class_of b ≡ k → is_letter k ≡ false → is_digit k ≡ false → Run (b ∷ bs) → bs ≡ []
 single b [] k e l d h = refl
-single b (c ∷ cs) k e l d h = absurd (apart (sym (no_join b c k e l d) ∙ h))
+single b (c ∷ cs) k e l d h = absurd (false≢true (sym (no_join b c k e l d) ∙ h))
 
 one_byte : (b : ℕ) (bs : List ℕ) (n : ℕ) → b ≡ n → bs ≡ [] → b ∷ bs ≡ n ∷ []
 one_byte b bs n p q = cc
 
 -- words
 same_bytes : (xs ys : List ℕ) → bytes_eq xs ys ≡ true → xs ≡ ys
-same_bytes [] [] h = refl
-same_bytes [] (y ∷ ys) h = absurd (apart h)
-same_bytes (x ∷ xs) [] h = absurd (apart h)
-same_bytes (x ∷ xs) (y ∷ ys) h =
-    let p = and_parts (eqb x y) (bytes_eq xs ys) h in
-    let q : x ≡ y = eqb-true x y p.0 in
-    let r = same_bytes xs ys p.1 in
-    cc
-
-none_some : {A : Type 0} {x : A} → ◌≡◌ {A = Option A} None (Some x) → ⊥
-none_some h = let z : ◌≡◌ {A = ℕ} 0 1 = cc in omega arith
+same_bytes xs ys h = (bytes_eq-Decides xs ys).0 h
 
 abbrev Texts : List (List ℕ × Form) → Type 0
 Texts [] = Unit {0}
@@ -127,7 +100,7 @@ look_up_by true w v f g o e h = inl (same_bytes w v e, cc)
 look_up_by false w v f g o e h = inr h
 
 look_up_sound : (w : List ℕ) (ps : List (List ℕ × Form)) (f : Form) → Texts ps → look_up w ps ≡ Some f → w ≡ word_text f
-look_up_sound w [] f t h = absurd (none_some h)
+look_up_sound w [] f t h = absurd cc
 look_up_sound w (p ∷ ps) f t h =
     elim (look_up_by (bytes_eq w p.0) w p.0 p.1 f (look_up w ps) refl h) [ inl e ↦ e.0 ∙ t.0 ∙ ap word_text e.1 | inr e ↦ look_up_sound w ps f t.1 e ]
 
@@ -147,39 +120,39 @@ form_sound w f h =
           ]
     ]
 
-word_by : (t u : Bool) (o : Option Form) (w : List ℕ) → bytes_eq w (codes "rule") ≡ t → bytes_eq w (codes "end") ≡ u → form_word w ≡ o → Spelled (token_of (cond t kind.Rule (cond u kind.End (form_kind o))) (pos 0)) → w ≡ token_text (token_of (cond t kind.Rule (cond u kind.End (form_kind o))) (pos 0))
+word_by : (t u : Bool) (o : Option Form) (w : List ℕ) → bytes_eq w (codes "rule") ≡ t → bytes_eq w (codes "end") ≡ u → form_word w ≡ o → Spelled (cond t kind.Rule (cond u kind.End (form_kind o))) → w ≡ kind_text (cond t kind.Rule (cond u kind.End (form_kind o)))
 word_by true u o w p q r h = same_bytes w (codes "rule") p
 word_by false true o w p q r h = same_bytes w (codes "end") q
 word_by false false (Some f) w p q r h = form_sound w f r
 word_by false false None w p q r h = absurd h
 
-number_by : (o : Option ℤ) (run : List ℕ) (p : Place) → number_of run ≡ o → Spelled (token (spelt o p)) → run ≡ token_text (token (spelt o p))
-number_by (Some z) run p e h = sym (number_sound run z e)
-number_by None run p e h = absurd h
+number_by : (o : Option ℤ) (run : List ℕ) → number_of run ≡ o → Spelled (spelt o) → run ≡ kind_text (spelt o)
+number_by (Some z) run e h = sym (number_sound run z e)
+number_by None run e h = absurd h
 
 -- a run with a text of its own is that text
-run_by : (k : Class) (b : ℕ) (bs : List ℕ) (p : Place) → class_of b ≡ k → Means k b → Run (b ∷ bs) → Spelled (token (by_class k (b ∷ bs) p)) → b ∷ bs ≡ token_text (token (by_class k (b ∷ bs) p))
-run_by class.Open b bs p e m r h = one_byte b bs 40 m (single b bs class.Open e refl refl r)
-run_by class.Close b bs p e m r h = one_byte b bs 41 m (single b bs class.Close e refl refl r)
-run_by class.Space b bs p e m r h = one_byte b bs 32 m (single b bs class.Space e refl refl r)
-run_by class.Newline b bs p e m r h = one_byte b bs 10 m (single b bs class.Newline e refl refl r)
-run_by class.Letter b bs p e m r h = word_by (bytes_eq (b ∷ bs) (codes "rule")) (bytes_eq (b ∷ bs) (codes "end")) (form_word (b ∷ bs)) (b ∷ bs) refl refl refl h
-run_by class.Digit b bs p e m r h = number_by (number_of (b ∷ bs)) (b ∷ bs) p refl h
-run_by class.Other b bs p e m r h = absurd h
+run_by : (k : Class) (b : ℕ) (bs : List ℕ) → class_of b ≡ k → Means k b → Run (b ∷ bs) → Spelled (by_class k (b ∷ bs)) → b ∷ bs ≡ kind_text (by_class k (b ∷ bs))
+run_by class.Open b bs e m r h = one_byte b bs 40 m (single b bs class.Open e refl refl r)
+run_by class.Close b bs e m r h = one_byte b bs 41 m (single b bs class.Close e refl refl r)
+run_by class.Space b bs e m r h = one_byte b bs 32 m (single b bs class.Space e refl refl r)
+run_by class.Newline b bs e m r h = one_byte b bs 10 m (single b bs class.Newline e refl refl r)
+run_by class.Letter b bs e m r h = word_by (bytes_eq (b ∷ bs) (codes "rule")) (bytes_eq (b ∷ bs) (codes "end")) (form_word (b ∷ bs)) (b ∷ bs) refl refl refl h
+run_by class.Digit b bs e m r h = number_by (number_of (b ∷ bs)) (b ∷ bs) refl h
+run_by class.Other b bs e m r h = absurd h
 
-run_text : (run : List ℕ) (p : Place) → Run run → Spelled (token (item_of run p)) → run ≡ token_text (token (item_of run p))
-run_text [] p r h = absurd r
-run_text (b ∷ bs) p r h = run_by (class_of b) b bs p refl (means b) r h
+run_text : (run : List ℕ) → Run run → Spelled (kind_of run) → run ≡ kind_text (kind_of run)
+run_text [] r h = absurd r
+run_text (b ∷ bs) r h = run_by (class_of b) b bs refl (means b) r h
 
 joined : (rs : List (List ℕ)) (p : Place) → All-runs rs → All-spelled (tokens (items_from p rs)) → join rs ≡ spell (tokens (items_from p rs))
 joined [] p r h = refl
 joined (run ∷ rs) p r h =
-    let a = run_text run p r.0 h.0 in
+    let a = run_text run r.0 h.0 in
     let b = joined rs (past p run) r.1 h.1 in
-    ap (λ x. x ++ join rs) a ∙ ap (λ x. token_text (token (item_of run p)) ++ x) b
+    ap (λ x. x ++ join rs) a ∙ ap (λ x. kind_text (kind_of run) ++ x) b
 
 -- a text whose items all have a text is the bytes of its items
-pub text_of_items : (text : List ℕ) (xs : List Token) → All-spelled xs → tokens (items text) ≡ xs → text ≡ spell xs
+pub text_of_items : (text : List ℕ) (xs : List Kind) → All-spelled xs → tokens (items text) ≡ xs → text ≡ spell xs
 text_of_items text xs h e =
     let r = runs_join text in
     sym r.1 ∙ joined (runs text) start r.0 (subst All-spelled (sym e) h) ∙ ap spell e

@@ -125,25 +125,41 @@ abbrev pub number_of : List ℕ → Option ℤ
 number_of [] = None
 number_of (b ∷ bs) = cond (b == 45) (minus (natural bs)) (plain (natural (b ∷ bs)))
 
--- the kind and the number of a run
-abbrev pub spelt : Option ℤ → Place → Item
-spelt (Some z) p = record { kind = kind.Number; place = p; number = z }
-spelt None p = record { kind = kind.Misspelt; place = p; number = pos 0 }
+-- the kind of a run
+abbrev pub spelt : Option ℤ → Kind
+spelt (Some z) = kind.Number z
+spelt None = kind.Misspelt
 
-abbrev pub unnumbered : Kind → Place → Item
-unnumbered k p = record { kind = k; place = p; number = pos 0 }
+abbrev pub by_class : Class → List ℕ → Kind
+by_class class.Open run = kind.Open
+by_class class.Close run = kind.Close
+by_class class.Space run = kind.Space
+by_class class.Newline run = kind.Newline
+by_class class.Letter run = word_kind run
+by_class class.Digit run = spelt (number_of run)
+by_class class.Other run = kind.Other
 
-abbrev pub by_class : Class → List ℕ → Place → Item
-by_class class.Open run p = unnumbered kind.Open p
-by_class class.Close run p = unnumbered kind.Close p
-by_class class.Space run p = unnumbered kind.Space p
-by_class class.Newline run p = unnumbered kind.Newline p
-by_class class.Letter run p = unnumbered (word_kind run) p
-by_class class.Digit run p = spelt (number_of run) p
-by_class class.Other run p = unnumbered kind.Other p
+abbrev pub kind_of : List ℕ → Kind
+kind_of run = by_class (class_of (first run)) run
 
 abbrev pub item_of : List ℕ → Place → Item
-item_of run p = by_class (class_of (first run)) run p
+item_of run p = record { kind = kind_of run; place = p }
+
+-- the number that an item is, and 0 for every other item
+abbrev pub kind_number : Kind → ℤ
+kind_number kind.Open = pos 0
+kind_number kind.Close = pos 0
+kind_number kind.Space = pos 0
+kind_number kind.Newline = pos 0
+kind_number kind.Rule = pos 0
+kind_number kind.End = pos 0
+kind_number (kind.Form f) = pos 0
+kind_number (kind.Number z) = z
+kind_number kind.Misspelt = pos 0
+kind_number kind.Other = pos 0
+
+abbrev pub item_number : Item → ℤ
+item_number it = kind_number it.kind
 
 -- the runs as items, from a place on, and the place after them
 abbrev pub items_from : Place → List (List ℕ) → List Item

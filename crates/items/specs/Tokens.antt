@@ -1,5 +1,5 @@
 -- Items without their places, and their bytes.
-use Rattle.std.specs.Prelude.{ℕ, List, [], ◌∷◌, ◌++◌, ℤ, codes}
+use Rattle.std.specs.Prelude.{ℕ, List, [], ◌∷◌, ◌++◌, codes}
 use Rattle.std.specs.Fmt.{signed_decimal}
 use Rattle.items.specs.declared.item.Form.{Form}
 use Rattle.items.specs.declared.item.Form.TheVariants as form
@@ -7,29 +7,10 @@ use Rattle.items.specs.declared.item.Kind.{Kind}
 use Rattle.items.specs.declared.item.Kind.TheVariants as kind
 use Rattle.items.specs.declared.item.Item.{Item}
 
--- an item without its place; only a number's own number counts
-pub data Token : Type 0 where
-  plain : Kind → Token
-  number : ℤ → Token
-
-abbrev pub token_of : Kind → ℤ → Token
-token_of kind.Open z = plain kind.Open
-token_of kind.Close z = plain kind.Close
-token_of kind.Space z = plain kind.Space
-token_of kind.Newline z = plain kind.Newline
-token_of kind.Rule z = plain kind.Rule
-token_of kind.End z = plain kind.End
-token_of (kind.Form f) z = plain (kind.Form f)
-token_of kind.Number z = number z
-token_of kind.Misspelt z = plain kind.Misspelt
-token_of kind.Other z = plain kind.Other
-
-abbrev pub token : Item → Token
-token it = token_of it.kind it.number
-
-abbrev pub tokens : List Item → List Token
+-- items without their places
+abbrev pub tokens : List Item → List Kind
 tokens [] = []
-tokens (it ∷ items) = token it ∷ tokens items
+tokens (it ∷ items) = it.kind ∷ tokens items
 
 abbrev pub word_text : Form → List ℕ
 word_text form.True = codes "true"
@@ -53,7 +34,7 @@ word_text form.Once = codes "once"
 word_text form.SoFar = codes "sofar"
 word_text form.Since = codes "since"
 
--- the last three have no text of their own: no rule has them
+-- the last two have no text of their own: no rule has them
 abbrev pub kind_text : Kind → List ℕ
 kind_text kind.Open = codes "("
 kind_text kind.Close = codes ")"
@@ -62,14 +43,10 @@ kind_text kind.Newline = 10 ∷ []
 kind_text kind.Rule = codes "rule"
 kind_text kind.End = codes "end"
 kind_text (kind.Form f) = word_text f
-kind_text kind.Number = []
+kind_text (kind.Number z) = signed_decimal z
 kind_text kind.Misspelt = []
 kind_text kind.Other = []
 
-abbrev pub token_text : Token → List ℕ
-token_text (plain k) = kind_text k
-token_text (number z) = signed_decimal z
-
-abbrev pub spell : List Token → List ℕ
+abbrev pub spell : List Kind → List ℕ
 spell [] = []
-spell (x ∷ xs) = token_text x ++ spell xs
+spell (k ∷ ks) = kind_text k ++ spell ks

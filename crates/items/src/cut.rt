@@ -1,9 +1,9 @@
 //! The run at the front of a text.
-ghost use Rattle.std.specs.Prelude.{◌≡◌, ◌<◌, ◌≤◌, ◌∷◌, length, take, drop};
+ghost use Rattle.std.specs.Prelude.{◌≡◌, ◌<◌, ◌≤◌, ◌∷◌, length, take, drop, take_while, zip};
 ghost use Rattle.items.specs.Items.{class_of as expected-class, joins, runs};
 
 /// What a byte can begin: a bracket, a space, a newline, a run of letters, a run for a number, or nothing.
-#[derive(Clone, Copy)]
+#[derive(Clone, Copy, PartialEq, Eq, Debug)]
 pub enum Class {
     Open,
     Close,
@@ -17,13 +17,13 @@ pub enum Class {
 pub(crate) fn class_of(b: u8) -> Class
     ensures { result ≡ expected-class b }
 {
-    match b as char {
-        '(' => Class::Open,
-        ')' => Class::Close,
-        ' ' => Class::Space,
-        '\n' => Class::Newline,
-        'a'..='z' => Class::Letter,
-        '0'..='9' | '-' => Class::Digit,
+    match b {
+        b'(' => Class::Open,
+        b')' => Class::Close,
+        b' ' => Class::Space,
+        b'\n' => Class::Newline,
+        b'a'..=b'z' => Class::Letter,
+        b'0'..=b'9' | b'-' => Class::Digit,
         _ => Class::Other,
     }
 }
@@ -32,11 +32,20 @@ pub(crate) fn class_of(b: u8) -> Class
 fn joined(a: u8, b: u8) -> bool
     ensures { result ≡ joins a b }
 {
-    match (class_of(a), class_of(b)) {
-        (Class::Letter, Class::Letter) => true,
-        (Class::Digit, Class::Digit) => true,
-        _ => false,
-    }
+    matches!(
+        (class_of(a), class_of(b)),
+        (Class::Letter, Class::Letter) | (Class::Digit, Class::Digit)
+    )
+}
+
+/// How many bytes from the front on join the next.
+fn joining(text: &[u8], rest: &[u8]) -> usize
+    ensures { result ≡ length (take_while (λ p. joins p.0 p.1) (zip text.now rest.now)) }
+{
+    text.iter()
+        .zip(rest)
+        .take_while(|(a, b)| joined(**a, **b))
+        .count()
 }
 
 /// The length of the run at the front. Cost: that length.
@@ -46,9 +55,5 @@ pub(crate) fn run_len(text: &[u8]) -> usize
     ensures within { result ≤ length text.now }
     ensures front { runs text.now ≡ take result text.now ∷ runs (drop result text.now) }
 {
-    let mut n = 1;
-    while n < text.len() && joined(text[n - 1], text[n]) {
-        n += 1;
-    }
-    n
+    1 + joining(text, &text[1..])
 }

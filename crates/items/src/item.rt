@@ -1,14 +1,16 @@
 //! The items of a text.
+ghost use Rattle.std.specs.Prelude.{◌≡◌};
+ghost use Rattle.items.specs.Items.{item_number};
 
 /// A line, and a byte in that line, both from 1.
-#[derive(Clone, Copy)]
+#[derive(Clone, Copy, PartialEq, Eq, Debug)]
 pub struct Place {
     pub line: usize,
     pub byte: usize,
 }
 
 /// The words of the twenty forms.
-#[derive(Clone, Copy)]
+#[derive(Clone, Copy, PartialEq, Eq, Debug)]
 pub enum Form {
     True,
     Some,
@@ -32,7 +34,7 @@ pub enum Form {
     Since,
 }
 
-#[derive(Clone, Copy)]
+#[derive(Clone, Copy, PartialEq, Eq, Debug)]
 pub enum Kind {
     Open,
     Close,
@@ -44,17 +46,28 @@ pub enum Kind {
     End,
     Form(Form),
     /// A number in its one right spelling.
-    Number,
+    Number(i64),
     /// Any other run of digits and minus signs, or a number beyond every range.
     Misspelt,
     /// A run of letters that is no word, or any other byte.
     Other,
 }
 
-/// Every item but a number has the number 0.
-#[derive(Clone, Copy)]
+#[derive(Clone, Copy, PartialEq, Eq, Debug)]
 pub struct Item {
     pub kind: Kind,
     pub place: Place,
-    pub number: i64,
+}
+
+impl Item {
+    /// The number that it is; every item but a number has the number 0. Cost: constant.
+    // Stays: by the definitions an item that is no number has the number 0, so there is no none to answer.
+    pub fn number(self) -> i64
+        ensures { result ≡ item_number self }
+    {
+        match self.kind {
+            Kind::Number(n) => n,
+            _ => 0,
+        }
+    }
 }

@@ -1,24 +1,25 @@
 //! Numbers in their one right spelling.
-ghost use Rattle.std.specs.Prelude.{◌≡◌};
-ghost use Rattle.items.specs.Items.{digit_after, read_on, natural as spelt-natural, plain, minus, number_of};
+ghost use Rattle.std.specs.Prelude.{◌≡◌, ◌+◌, ◌*◌, ◌-◌, cond, Some, None};
+ghost use Rattle.items.specs.Items.{digit_after, read_on, natural as spelt-natural, number_of};
 
-/// Whether a digit can follow a number.
-fn goes_on(n: u32, d: u8) -> bool
-    ensures { result ≡ digit_after n d }
+/// The number with this digit after it, unless the byte is no digit or the number is past every range.
+fn followed(n: u32, d: u8) -> Option<u32>
+    ensures { result ≡ cond (digit_after n d) (Some (n * 10 + (d - 48))) None }
 {
-    b'0' <= d && d <= b'9' && n <= 100_000_000
+    match d {
+        b'0'..=b'9' if n <= 100_000_000 => Some(n * 10 + u32::from(d - b'0')),
+        _ => None,
+    }
 }
 
 /// The number that these digits spell, unless it is beyond every range.
 fn value(digits: &[u8]) -> Option<u32>
     ensures { result ≡ read_on 0 digits.now }
 {
+    // Stays: tried `try_fold`; the check left open what it gives, `try_fold.result ≡ read_on 0 digits.now`.
     let mut n = 0;
     for d in digits {
-        if !goes_on(n, *d) {
-            return None;
-        }
-        n = n * 10 + (*d - b'0') as u32;
+        n = followed(n, *d)?;
     }
     Some(n)
 }
@@ -26,35 +27,10 @@ fn value(digits: &[u8]) -> Option<u32>
 fn natural(digits: &[u8]) -> Option<u32>
     ensures { result ≡ spelt-natural digits.now }
 {
-    let [first, rest @ ..] = digits else {
-        return None;
-    };
-    if *first != b'0' {
-        return value(digits);
-    }
-    if rest.is_empty() { Some(0) } else { None }
-}
-
-fn positive(n: Option<u32>) -> Option<i64>
-    ensures { result ≡ plain n }
-{
-    match n {
-        Some(n) => Some(n as i64),
-        None => None,
-    }
-}
-
-fn negative(n: Option<u32>) -> Option<i64>
-    ensures { result ≡ minus n }
-{
-    match n {
-        Some(n) => {
-            if n == 0 {
-                return None;
-            }
-            Some(-(n as i64))
-        }
-        None => None,
+    match digits {
+        [b'0'] => Some(0),
+        [] | [b'0', ..] => None,
+        _ => value(digits),
     }
 }
 
@@ -62,11 +38,9 @@ fn negative(n: Option<u32>) -> Option<i64>
 pub(crate) fn number(run: &[u8]) -> Option<i64>
     ensures { result ≡ number_of run.now }
 {
-    let [first, digits @ ..] = run else {
-        return None;
-    };
-    if *first == b'-' {
-        return negative(natural(digits));
+    match run {
+        // Zero has no minus sign.
+        [b'-', digits @ ..] => natural(digits).filter(|n| *n != 0).map(|n| -i64::from(n)),
+        _ => natural(run).map(i64::from),
     }
-    positive(natural(run))
 }

@@ -1,64 +1,64 @@
-//! The item of a run, and the place past it.
-ghost use Rattle.std.specs.Prelude.{◌≡◌, ◌+◌, ◌^◌, ◌<◌, length};
-ghost use Rattle.items.specs.Items.{unnumbered as plain-item, spelt, item_of as expected-item, past};
+//! A run of bytes: its kind, and the place past it.
+ghost use Rattle.std.specs.Prelude.{◌≡◌, ◌+◌, ◌^◌, ◌<◌, ◌∷◌, ◌++◌, [], IfSome, MatchOption, length};
+ghost use Rattle.items.specs.Items.{kind_of, past as past-run, runs};
 
-use crate::cut::{Class, class_of};
-use crate::item::{Item, Kind, Place};
+use crate::cut::{Class, class_of, run_len};
+use crate::item::{Kind, Place};
 use crate::number::number;
 use crate::word::word;
 
-fn unnumbered(kind: Kind, place: Place) -> Item
-    ensures { result ≡ plain-item kind place }
-{
-    Item {
-        kind,
-        place,
-        number: 0,
+/// Bytes that stand together, at least one.
+#[derive(Clone, Copy)]
+pub(crate) struct Run<'a> {
+    pub(crate) bytes: &'a [u8],
+    ghost some: { 0 < length bytes.now },
+}
+
+impl<'a> Run<'a> {
+    /// The run at the front of a text and what stands after it, unless the text is empty. Cost: the run's length.
+    pub(crate) fn front(text: &'a [u8]) -> Option<(Run<'a>, &'a [u8])>
+        ensures parts { MatchOption result (text.now ≡ []) (λ p. text.now ≡ p.0.bytes.now ++ p.1.now) }
+        ensures first { IfSome result (λ p. runs text.now ≡ p.0.bytes.now ∷ runs p.1.now) }
+    {
+        if text.is_empty() {
+            return None;
+        }
+        let (bytes, after) = text.split_at(run_len(text));
+        Some((Run { bytes }, after))
+    }
+
+    /// The kind of the item that it is. Cost: its length.
+    pub(crate) fn kind(self) -> Kind
+        ensures { result ≡ kind_of self.entry.bytes.now }
+    {
+        match class_of(self.bytes[0]) {
+            Class::Open => Kind::Open,
+            Class::Close => Kind::Close,
+            Class::Space => Kind::Space,
+            Class::Newline => Kind::Newline,
+            Class::Letter => word(self.bytes),
+            Class::Digit => number(self.bytes).map_or(Kind::Misspelt, Kind::Number),
+            Class::Other => Kind::Other,
+        }
     }
 }
 
-fn numbered(number: Option<i64>, place: Place) -> Item
-    ensures { result ≡ spelt number place }
-{
-    match number {
-        Some(number) => Item {
-            kind: Kind::Number,
-            place,
-            number,
-        },
-        None => unnumbered(Kind::Misspelt, place),
-    }
-}
-
-pub(crate) fn item_of(run: &[u8], place: Place) -> Item
-    requires { 0 < length run.now }
-    ensures { result ≡ expected-item run.now place }
-{
-    match class_of(run[0]) {
-        Class::Open => unnumbered(Kind::Open, place),
-        Class::Close => unnumbered(Kind::Close, place),
-        Class::Space => unnumbered(Kind::Space, place),
-        Class::Newline => unnumbered(Kind::Newline, place),
-        Class::Letter => unnumbered(word(run), place),
-        Class::Digit => numbered(number(run), place),
-        Class::Other => unnumbered(Kind::Other, place),
-    }
-}
-
-pub(crate) fn place_past(place: Place, run: &[u8]) -> Place
-    requires line { place.line + 1 < 2 ^ 64 }
-    requires byte { place.byte + length run.now < 2 ^ 64 }
-    requires some { 0 < length run.now }
-    ensures { result ≡ past place run.now }
-{
-    if run[0] == b'\n' {
-        return Place {
-            line: place.line + 1,
-            byte: 1,
-        };
-    }
-    Place {
-        line: place.line,
-        byte: place.byte + run.len(),
+impl Place {
+    /// The place past a run that stands here.
+    pub(crate) fn past(self, run: Run) -> Place
+        requires line { self.line + 1 < 2 ^ 64 }
+        requires byte { self.byte + length run.bytes.now < 2 ^ 64 }
+        ensures { result ≡ past-run self run.entry.bytes.now }
+    {
+        if run.bytes[0] == b'\n' {
+            return Place {
+                line: self.line + 1,
+                byte: 1,
+            };
+        }
+        Place {
+            line: self.line,
+            byte: self.byte + run.bytes.len(),
+        }
     }
 }

@@ -4,9 +4,8 @@ ghost use Rattle.items.specs.Items.{items, end_of};
 ghost use Rattle.items.specs.Cursors.{items_left, end_left, first_item, other_items, place_of};
 
 use crate::cursor::Cursor;
-use crate::cut::run_len;
 use crate::item::{Item, Place};
-use crate::run::{item_of, place_past};
+use crate::run::Run;
 
 impl<'a> Cursor<'a> {
     /// At the start of a text. Cost: constant.
@@ -41,15 +40,14 @@ impl<'a> Cursor<'a> {
         ensures end { end_left self.new ≡ end_left self.old }
     {
         let Cursor { rest, place } = *self;
-        if rest.is_empty() {
-            return None;
-        }
-        let (run, after) = rest.split_at(run_len(rest));
-        let item = item_of(run, place);
+        let (run, after) = Run::front(rest)?;
         *self = Cursor {
             rest: after,
-            place: place_past(place, run),
+            place: place.past(run),
         };
-        Some(item)
+        Some(Item {
+            kind: run.kind(),
+            place,
+        })
     }
 }
