@@ -2,9 +2,7 @@ pub mod Roots
 pub mod Taken
 pub mod Fits
 pub mod Slots
-pub mod Forms
 pub mod Formulas
-pub mod RuleLines
 pub mod RuleLoop
 pub mod Whole
 pub mod Placed

@@ -1,11 +1,11 @@
 -- What the loop over rules keeps.
-use Rattle.std.proofs.Common.{◌≡◌, ℕ, zero, suc, ◌+◌, ◌-◌, ◌<◌, ◌≤◌, Bool, true, false, cond, eqb, ltb, List, [], ◌∷◌, ◌++◌, length, sym, refl, ap, ◌∙◌, append_assoc, append-nil, arith, length-append, ltb-false, ltb-true}
+use Rattle.std.proofs.Common.{◌≡◌, ℕ, suc, ◌+◌, ◌-◌, ◌<◌, ◌≤◌, Bool, true, false, cond, eqb, ltb, List, [], ◌∷◌, ◌++◌, length, sym, refl, ap, ◌∙◌, append_assoc, arith, length-append, ltb-true}
 use Rattle.items.specs.declared.item.Item.{Item}
 use Rattle.grammar.specs.declared.fault.ReadFault.{ReadFault as Fault}
-use Rattle.grammar.specs.Reading.{State, Outcome, Step, done, stop, then, next, is, fault_at}
+use Rattle.grammar.specs.Reading.{State, Outcome, done, stop, then, next, is, fault_at}
 use Rattle.syntax.specs.declared.Rule.{Rule}
 use Rattle.grammar.specs.Files.{rule_opening, rule, at_end, rules, all_rules}
-use Rattle.items.proofs.Tests.{apart}
+use Rattle.std.proofs.lemmas.Bool.{false≢true}
 use Rattle.grammar.proofs.FileInversion.{ruled}
 use Rattle.grammar.proofs.Inversion.{stopped}
 use Rattle.items.specs.declared.item.Kind.TheVariants as kind
@@ -53,51 +53,10 @@ module _ (s0 : State) (acc : List Rule) (least : ℕ) (s : State) (h : Sofar s0 
         few = simp length-append (omega arith);
       }
 
--- the opening bracket stops both
-with_room : (o : Outcome (Unit {0})) (g f : Fault) (k : Unit {0} → Step (List Rule)) → ◌≡◌ {A = Outcome (Unit {0})} (then o (λ _ u. done tt u)) (stop f) → then o k ≡ stop f
-with_room (done v u) g f k h = absurd (stopped {t = u} (sym h))
-with_room (stop e) g f k h = cc
-
-no_room : (o : Outcome (Unit {0})) (g f : Fault) → ◌≡◌ {A = Outcome (Unit {0})} (then o (λ _ u. stop g)) (stop f) → ◌≡◌ {A = Outcome (List Rule)} (then o (λ _ u. stop g)) (stop f)
-no_room (done v u) g f h = cc
-no_room (stop e) g f h = cc
-
-open_fault : (b : Bool) (n : ℕ) (least : ℕ) (s : State) (f : Fault) → n ≤ 16 → 0 < length s.rest → ltb n 16 ≡ b → ◌≡◌ {A = Outcome (Unit {0})} (then (next (is kind.Open) s) (λ _ t. cond b (done tt t) (stop (fault_at s fault.TooMany)))) (stop f) → rules (16 - n) least s ≡ stop f
-open_fault true n least s f le some e h =
-    let lt : n < 16 = ltb-true n 16 e in
-    let k : 16 - n ≡ suc (15 - n) = omega arith in
-    ap (λ m. rules m least s) k ∙ at_more s.rest (done [] s) _ some ∙ with_room (next (is kind.Open) s) f f _ h
-open_fault false n least s f le some e h =
-    let ge : 16 ≤ n = ltb-false n 16 e in
-    let k : 16 - n ≡ 0 = omega arith in
-    ap (λ m. rules m least s) k ∙ at_more s.rest (done [] s) _ some ∙ no_room (next (is kind.Open) s) (fault_at s fault.TooMany) f h
-
-pub opening_stops : (s0 : State) (acc : List Rule) (least : ℕ) (s : State) → Sofar s0 acc least s → 0 < length s.rest → (f : Fault) → rule_opening (length acc) s ≡ stop f → all_rules s0 ≡ stop f
-opening_stops s0 acc least s h some f x = h.whole ∙ ap (prefixed acc) (open_fault (ltb (length acc) 16) (length acc) least s f h.few some refl x)
-
-pub rule_stops : (s0 : State) (acc : List Rule) (least : ℕ) (s : State) → Sofar s0 acc least s → 0 < length s.rest → (t : State) → rule_opening (length acc) s ≡ done tt t → (f : Fault) → rule least t ≡ stop f → all_rules s0 ≡ stop f
-rule_stops s0 acc least s h some t p f x =
-    let o = opened_by (ltb (length acc) 16) (next (is kind.Open) s) (fault_at s fault.TooMany) t p in
-    let lt : length acc < 16 = ltb-true (length acc) 16 o.0 in
-    let k : 16 - length acc ≡ suc (15 - length acc) = omega arith in
-    h.whole ∙ ap (λ n. prefixed acc (rules n least s)) k ∙ ap (prefixed acc) (at_more s.rest (done [] s) _ some ∙ ap (λ z. then z (λ _ y. then (rule least y) (λ a w. then (rules (15 - length acc) (a.number + 1) w) (λ zs m. done (a ∷ zs) m)))) o.1 ∙ ap (λ z. then z (λ a w. then (rules (15 - length acc) (a.number + 1) w) (λ zs m. done (a ∷ zs) m))) x)
-
-ended : (k : ℕ) (least : ℕ) (s : State) (items : List Item) → s.rest ≡ items → length items ≡ 0 → rules k least s ≡ done [] s
-ended zero least s [] e z = rw e
-ended (suc k) least s [] e z = rw e
-ended zero least s (it ∷ items) e z = absurd (omega arith)
-ended (suc k) least s (it ∷ items) e z = absurd (omega arith)
-
-pub all : (s0 : State) (acc : List Rule) (least : ℕ) (s : State) → Sofar s0 acc least s → length s.rest ≡ 0 → all_rules s0 ≡ done acc s
-all s0 acc least s h z = h.whole ∙ ap (prefixed acc) (ended (16 - length acc) least s s.rest refl z) ∙ ap (λ x. done x s) (append-nil acc)
-
-pub fewer : (n : ℕ) (s t : State) → rule_opening n s ≡ done tt t → n < 16
-fewer n s t p = ltb-true n 16 (opened_by (ltb n 16) (next (is kind.Open) s) (fault_at s fault.TooMany) t p).0
-
 -- a rule's number is small
 pub number_small : (least : ℕ) (s : State) (r : Rule) (t : State) → rule least s ≡ done r t → r.number ≤ 99
 number_small least s r t h = (ruled least s r t h).fit.1
 
 pub not_empty : (items : List Item) → false ≡ eqb (length items) 0 → 0 < length items
-not_empty [] h = absurd (apart h)
+not_empty [] h = absurd (false≢true h)
 not_empty (it ∷ items) h = omega arith

@@ -1,13 +1,13 @@
 -- How the reader's answers follow the reading of items.
-use Rattle.std.specs.Prelude.{◌≡◌, List, map, length, take, Ok, Err, vec_items, Result}
-use Rattle.items.specs.declared.item.Item.{Item}
+use Rattle.std.specs.Prelude.{◌≡◌, Bool, true, false, List, map, ℤ, Ok, Err, vec_items, Result}
+use Rattle.items.specs.declared.item.Kind.{Kind}
+use Rattle.items.specs.declared.item.Kind.TheVariants as kind
 use Rattle.items.specs.Cursors.{items_left, end_left}
 use Rattle.grammar.specs.declared.fault.ReadFault.{ReadFault}
 use Rattle.grammar.specs.declared.shape.Slot.{Slot}
-use Rattle.grammar.specs.Entries.{entry_of}
-use Rattle.grammar.specs.Reading.{State, Outcome, done, stop}
+use Rattle.grammar.specs.Entries.{Arg, entry_of}
+use Rattle.grammar.specs.Reading.{State, Outcome, Step, done, stop, then, arg, arguments}
 use Rattle.rules.specs.declared.reader.Reader.{Reader}
-use Rattle.rules.specs.Fitting.{Fitting}
 
 abbrev pub state_of : Reader → State
 state_of r = record { rest = items_left r.items; past = end_left r.items; opened = r.opened; nodes = map entry_of (vec_items r.nodes) }
@@ -17,12 +17,24 @@ abbrev pub Reads : {V : Type 0} → Result V ReadFault → Outcome V → State �
 Reads (Ok v) read after = read ≡ done v after
 Reads (Err f) read after = read ≡ stop f
 
--- the same, where the answer's first items are what is read, one for each slot, and they fit
-abbrev pub ReadsForm : List Slot → Result (List Item) ReadFault → Outcome (List Item) → State → Type 0
-ReadsForm slots (Ok f) read after = (read ≡ done (take (length slots) f) after) × Fitting slots (take (length slots) f) × (length f ≡ 3)
-ReadsForm slots (Err f) read after = read ≡ stop f
-
 -- the same, where the answer stands for what is read
 abbrev pub ReadsAs : {V W : Type 0} → (V → W) → Result V ReadFault → Outcome W → State → Type 0
 ReadsAs f (Ok v) read after = read ≡ done (f v) after
 ReadsAs f (Err e) read after = read ≡ stop e
+
+-- what the items for these slots stand for, each at least the number before it where its slot asks that
+abbrev pub args_from : List Slot → ℤ → Step (List Arg)
+args_from slots before s = then (arguments slots before s) (λ its t. done (map arg its) t)
+
+-- whether a kind holds nothing more
+abbrev pub is_bare : Kind → Bool
+is_bare kind.Open = true
+is_bare kind.Close = true
+is_bare kind.Space = true
+is_bare kind.Newline = true
+is_bare kind.Rule = true
+is_bare kind.End = true
+is_bare (kind.Form f) = false
+is_bare (kind.Number z) = false
+is_bare kind.Misspelt = true
+is_bare kind.Other = true

@@ -3,7 +3,7 @@
 
 mod build;
 mod formula;
-mod make;
+mod narrow;
 pub mod questions;
 mod reach;
 mod read;

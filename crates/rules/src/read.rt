@@ -5,6 +5,7 @@ ghost use Rattle.grammar.specs.Formed.{Formed};
 ghost use Rattle.rules.specs.Tables.{nodes_of, rules_of, Answers, Accepts, Places};
 
 use crate::reader::Reader;
+use crate::steps::fault;
 use crate::table::Table;
 use grammar::fault::{FaultKind, ReadFault};
 use items::cursor::Cursor;
@@ -46,10 +47,7 @@ impl Table {
         rules.clear();
         let items = Cursor::new(text);
         if items.is_empty() {
-            return Err(ReadFault {
-                kind: FaultKind::Empty,
-                place: items.place(),
-            });
+            return Err(fault(FaultKind::Empty, items.place()));
         }
         let mut reader = Reader {
             items,

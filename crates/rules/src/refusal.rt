@@ -2,17 +2,17 @@
 ghost use Rattle.std.specs.Prelude.{◌≡◌};
 ghost use Rattle.rules.specs.Refusals.{judge_number};
 
-/// A refusal of the judge.
-#[derive(Clone, Copy)]
+/// A refusal of the judge. Its value is its number.
+#[derive(Clone, Copy, PartialEq, Eq, Debug)]
 pub enum JudgeFault {
     /// There are not as many rows as stamps, or too many of both.
-    Record,
+    Record = 21,
     /// A stamp is too high, or does not rise.
-    Stamp,
+    Stamp = 22,
     /// No rule has that number.
-    UnknownRule,
+    UnknownRule = 25,
     /// The record has no such state.
-    NoSuchState,
+    NoSuchState = 26,
 }
 
 impl JudgeFault {
@@ -20,11 +20,6 @@ impl JudgeFault {
     pub fn number(self) -> u8
         ensures { result ≡ judge_number self }
     {
-        match self {
-            JudgeFault::Record => 21,
-            JudgeFault::Stamp => 22,
-            JudgeFault::UnknownRule => 25,
-            JudgeFault::NoSuchState => 26,
-        }
+        self as u8
     }
 }

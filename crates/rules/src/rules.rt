@@ -9,13 +9,12 @@ use syntax::Rule;
 
 impl<'a> Reader<'a> {
     /// All rules, into the room that is handed in.
-    pub(crate) fn rules(&mut self, room: Vec<Rule>) -> Result<Vec<Rule>, ReadFault>
-        requires empty { room.items ≡ [] }
-        requires wide { 16 ≤ vec_capacity room }
+    pub(crate) fn rules(&mut self, mut rules: Vec<Rule>) -> Result<Vec<Rule>, ReadFault>
+        requires empty { rules.items ≡ [] }
+        requires wide { 16 ≤ vec_capacity rules }
         ensures read { ReadsAs vec_items result (all_rules (state_of self.old)) (state_of self.new) }
         ensures wide { IfOk result (λ v. 16 ≤ vec_capacity v) }
     {
-        let mut rules = room;
         let mut least = 1;
         while !self.items.is_empty() {
             self.rule_opening(rules.len())?;

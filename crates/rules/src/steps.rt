@@ -1,87 +1,53 @@
 //! Takes one item after another.
-ghost use Rattle.std.specs.Prelude.{◌<◌, ◌≤◌, length, pos};
-ghost use Rattle.items.specs.declared.item.Kind.TheVariants.{Space, Close, Newline, Rule as RuleWord};
+ghost use Rattle.std.specs.Prelude.{◌≡◌, ◌<◌, ◌≤◌, true, length, pos, IfOk};
 ghost use Rattle.grammar.specs.Entries.{entry_of};
-ghost use Rattle.grammar.specs.Reading.{next, any, is, argument as fits_slot, arguments as slot-arguments, opening as form-opening, closing as form-closing, word as form_word};
+ghost use Rattle.grammar.specs.Reading.{next, any, is, arg as expected-arg, argument as fits_slot, opening as form-opening, closing as form-closing, word as form_word};
 ghost use Rattle.grammar.specs.Files.{rule_opening};
-ghost use Rattle.rules.specs.Reads.{state_of, Reads, ReadsForm};
+ghost use Rattle.rules.specs.Fitting.{Fitting};
+ghost use Rattle.rules.specs.Reads.{state_of, Reads, ReadsAs, args_from, is_bare};
 
 use crate::reader::Reader;
+use arrayvec::ArrayVec;
 use grammar::fault::{FaultKind, ReadFault};
 use grammar::fit::fit;
 use grammar::shape::Slot;
 use items::item::{Form, Item, Kind, Place};
 use syntax::Node;
 
-const NOTHING: Item = Item {
-    kind: Kind::Other,
-    place: Place { line: 0, byte: 0 },
-    number: 0,
-};
+/// A fault of this kind at this place.
+pub(crate) fn fault(kind: FaultKind, place: Place) -> ReadFault
+    ensures { result ≡ record { kind = kind; place = place } }
+{
+    ReadFault { kind, place }
+}
+
+/// What an item that fits a slot stands for: its number, or none for the word `end`.
+fn arg(item: Item) -> Option<i64>
+    ensures { result ≡ expected-arg item }
+{
+    match item.kind {
+        Kind::End => None,
+        _ => Some(item.number()),
+    }
+}
 
 impl<'a> Reader<'a> {
     fn item(&mut self) -> Result<Item, ReadFault>
         ensures { Reads result (next any (state_of self.old)) (state_of self.new) }
     {
         let place = self.items.place();
-        let Some(item) = self.items.take() else {
-            return Err(ReadFault {
-                kind: FaultKind::Misfit,
-                place,
-            });
-        };
-        Ok(item)
+        self.items.take().ok_or(fault(FaultKind::Misfit, place))
     }
 
-    pub(crate) fn space(&mut self) -> Result<(), ReadFault>
-        ensures { Reads result (next (is Space) (state_of self.old)) (state_of self.new) }
+    /// An item of this kind, which holds nothing more.
+    pub(crate) fn expect(&mut self, kind: Kind) -> Result<(), ReadFault>
+        requires { is_bare kind ≡ true }
+        ensures { Reads result (next (is kind) (state_of self.old)) (state_of self.new) }
     {
         let item = self.item()?;
-        let Kind::Space = item.kind else {
-            return Err(ReadFault {
-                kind: FaultKind::Misfit,
-                place: item.place,
-            });
-        };
-        Ok(())
-    }
-
-    pub(crate) fn close(&mut self) -> Result<(), ReadFault>
-        ensures { Reads result (next (is Close) (state_of self.old)) (state_of self.new) }
-    {
-        let item = self.item()?;
-        let Kind::Close = item.kind else {
-            return Err(ReadFault {
-                kind: FaultKind::Misfit,
-                place: item.place,
-            });
-        };
-        Ok(())
-    }
-
-    pub(crate) fn newline(&mut self) -> Result<(), ReadFault>
-        ensures { Reads result (next (is Newline) (state_of self.old)) (state_of self.new) }
-    {
-        let item = self.item()?;
-        let Kind::Newline = item.kind else {
-            return Err(ReadFault {
-                kind: FaultKind::Misfit,
-                place: item.place,
-            });
-        };
-        Ok(())
-    }
-
-    pub(crate) fn rule_word(&mut self) -> Result<(), ReadFault>
-        ensures { Reads result (next (is RuleWord) (state_of self.old)) (state_of self.new) }
-    {
-        let item = self.item()?;
-        let Kind::Rule = item.kind else {
-            return Err(ReadFault {
-                kind: FaultKind::Misfit,
-                place: item.place,
-            });
-        };
+        if item.kind != kind {
+            return Err(fault(FaultKind::Misfit, item.place));
+        }
         Ok(())
     }
 
@@ -89,13 +55,7 @@ impl<'a> Reader<'a> {
         ensures { Reads result (next (fits_slot slot before) (state_of self.old)) (state_of self.new) }
     {
         let item = self.item()?;
-        match fit(slot, before, item) {
-            Ok(item) => Ok(item),
-            Err(kind) => Err(ReadFault {
-                kind,
-                place: item.place,
-            }),
-        }
+        fit(slot, before, item).map_err(|kind| fault(kind, item.place))
     }
 
     fn word(&mut self) -> Result<Form, ReadFault>
@@ -103,10 +63,7 @@ impl<'a> Reader<'a> {
     {
         let item = self.item()?;
         let Kind::Form(form) = item.kind else {
-            return Err(ReadFault {
-                kind: FaultKind::Misfit,
-                place: item.place,
-            });
+            return Err(fault(FaultKind::Misfit, item.place));
         };
         Ok(form)
     }
@@ -115,18 +72,10 @@ impl<'a> Reader<'a> {
     pub(crate) fn opening(&mut self, levels: usize) -> Result<Form, ReadFault>
         ensures { Reads result (form-opening levels (state_of self.old)) (state_of self.new) }
     {
-        let item = self.item()?;
-        let Kind::Open = item.kind else {
-            return Err(ReadFault {
-                kind: FaultKind::Misfit,
-                place: item.place,
-            });
-        };
+        let place = self.items.place();
+        self.expect(Kind::Open)?;
         if levels == 0 || self.opened >= 64 {
-            return Err(ReadFault {
-                kind: FaultKind::TooMany,
-                place: item.place,
-            });
+            return Err(fault(FaultKind::TooMany, place));
         }
         self.opened += 1;
         self.word()
@@ -136,36 +85,32 @@ impl<'a> Reader<'a> {
     pub(crate) fn rule_opening(&mut self, before: usize) -> Result<(), ReadFault>
         ensures { Reads result (rule_opening before (state_of self.old)) (state_of self.new) }
     {
-        let item = self.item()?;
-        let Kind::Open = item.kind else {
-            return Err(ReadFault {
-                kind: FaultKind::Misfit,
-                place: item.place,
-            });
-        };
+        let place = self.items.place();
+        self.expect(Kind::Open)?;
         if before >= 16 {
-            return Err(ReadFault {
-                kind: FaultKind::TooMany,
-                place: item.place,
-            });
+            return Err(fault(FaultKind::TooMany, place));
         }
         Ok(())
     }
 
-    /// The items of these slots, each after a space.
-    pub(crate) fn arguments(&mut self, slots: &[Slot]) -> Result<[Item; 3], ReadFault>
+    /// The arguments for these slots, each after a space.
+    pub(crate) fn arguments(
+        &mut self,
+        slots: &[Slot],
+    ) -> Result<ArrayVec<Option<i64>, 3>, ReadFault>
         requires { length slots.now ≤ 3 }
-        ensures { ReadsForm slots.now result (slot-arguments slots.now (pos 0) (state_of self.old)) (state_of self.new) }
+        ensures read { ReadsAs (λ v. v.items) result (args_from slots.now (pos 0) (state_of self.old)) (state_of self.new) }
+        ensures fits { IfOk result (λ v. Fitting slots.now v.items) }
     {
-        let mut items = [NOTHING; 3];
+        let mut args = ArrayVec::new();
         let mut before = 0;
-        for (i, slot) in slots.iter().enumerate() {
-            self.space()?;
+        for slot in slots {
+            self.expect(Kind::Space)?;
             let item = self.argument(*slot, before)?;
-            items[i] = item;
-            before = item.number;
+            args.push(arg(item));
+            before = item.number();
         }
-        Ok(items)
+        Ok(args)
     }
 
     /// The closing bracket of a formula, which adds its node: the node's number.
@@ -173,7 +118,7 @@ impl<'a> Reader<'a> {
         requires { length (state_of self.old).nodes < self.old.opened }
         ensures { Reads result (form-closing (entry_of node) (state_of self.old)) (state_of self.new) }
     {
-        self.close()?;
+        self.expect(Kind::Close)?;
         let number = self.nodes.len();
         self.nodes.push_reserved(node);
         Ok(number)

@@ -11,6 +11,7 @@ use syntax::{Node, Rule};
 /// Every node is used once, bounds are in order and in their ranges, and the numbers of the rules rise.
 /// All of this follows from the one fact that nodes and rules are those of well-formed rules.
 /// A table has room for as many as it may ever hold.
+// Stays: nodes in a list, with numbers for operands, since a table's memory is asked for once and the numbers are shown.
 #[derive(Drop)]
 pub struct Table {
     pub(crate) nodes: Vec<Node>,
