@@ -1,10 +1,12 @@
 -- The worked facts.
-use Rattle.std.proofs.Common.{◌≡◌, ℕ, zero, suc, ◌-◌, ◌<◌, Bool, true, false, cond, not, ◌||◌, ltb, List, [], ◌∷◌, length, pos, sym, refl, ap, ◌∙◌, arith}
+use Rattle.std.proofs.Common.{◌≡◌, ℕ, zero, suc, ◌-◌, ◌<◌, Bool, true, false, cond, not, ltb, List, [], length, pos, sym, refl, ap, ◌∙◌, arith}
+use Rattle.std.proofs.Math.Bool.{or-not_self}
 use Rattle.std.proofs.lemmas.Bool.{le-ltb}
+use Rattle.std.proofs.lemmas.List.{length-map}
 use Rattle.truth.specs.Kinds.{Kind}
 use Rattle.truth.specs.declared.Three.{Three}
-use Rattle.truth.specs.declared.Three.TheVariants.{True, False, Undecided}
-use Rattle.truth.specs.Kleene.{plain, three, embed, or3, not3}
+use Rattle.truth.specs.declared.Three.TheVariants.{True, False}
+use Rattle.truth.specs.Kleene.{plain, three, embed, not3}
 use Rattle.syntax.specs.declared.Window.{Window}
 use Rattle.store.specs.Facts.{fact_of, holds, of_relation, value_in}
 use Rattle.eval.specs.Truth.{Record, any, count, stamp, closed, next}
@@ -24,8 +26,7 @@ next_last k r w f i e =
     rw (out, dist)
 
 length_stamps : (h : List State) → length (stamps h) ≡ length h
-length_stamps [] = refl
-length_stamps (s ∷ h) = ap suc (length_stamps h)
+length_stamps h = length-map h (λ s. s.stamp)
 
 ends : (h : List State) (i : ℕ) → Last h i → Ends h i
 ends h i e =
@@ -48,14 +49,7 @@ empties h i e = record { some_none = rw e; every_none = rw e; refer_none = rw e 
 -- an or of values that are all no is no
 any_no : (n : ℕ) (p : ℕ → Bool) (f : ℕ → Three) → ((j : ℕ) → j < n → f j ≡ False) → any three n p f ≡ False
 any_no zero p f h = refl
-any_no (suc n) p f h = rw (any_no n p f (λ j lt. h j (omega arith)), h n (omega arith)) (elim (p n) as (λ b. cond b False False ≡ False) [ true ↦ refl | false ↦ refl ])
-
-open_still : (x : Three) → x ≡ False → or3 (or3 x Undecided) (not3 (or3 x Undecided)) ≡ Undecided
-open_still x e = rw e
-
-or_not : (b : Bool) → (b || not b) ≡ true
-or_not true = refl
-or_not false = refl
+any_no (suc n) p f h = rw (any_no n p f (λ j lt. h j (omega arith)), h n (omega arith)) (grind arith)
 
 pub worked_facts : WorkedFacts
 worked_facts =
@@ -64,6 +58,6 @@ worked_facts =
       ends = ends;
       begins = begins;
       empties = empties;
-      still_open = λ h i unseen l. open_still _ (any_no (length (stamps h)) _ (λ j. embed (holds (fact_of 0 0 (pos 1)) (facts_at h j))) (λ j lt. ap embed (unseen j (omega (arith, length_stamps h)))));
-      never_false = λ h i history l. or_not _;
+      still_open = λ h i unseen l. rw (any_no (length (stamps h)) _ (λ j. embed (holds (fact_of 0 0 (pos 1)) (facts_at h j))) (λ j lt. ap embed (unseen j (omega (arith, length_stamps h)))));
+      never_false = λ h i history l. or-not_self _;
     }

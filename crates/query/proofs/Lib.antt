@@ -1,4 +1,3 @@
-pub mod Turns
 pub mod Keys
 pub mod Bits
 pub mod Meanings

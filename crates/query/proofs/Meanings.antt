@@ -1,6 +1,5 @@
 -- The answers say what the queries mean.
-use Rattle.std.proofs.Common.{◌≡◌, ℕ, Bool, true, false, not, ◌&&◌, ◌||◌, eqb, List, [], ◌∷◌, ℤ, ◌≤ℤ◌, sym, refl, ap, ◌∙◌, subst, ⊎_elim, arith}
-use lib.Signed.{le_z}
+use Rattle.std.proofs.Common.{◌≡◌, ℕ, Bool, true, false, not, ◌||◌, eqb, List, [], ◌∷◌, ℤ, ◌≤ℤ◌, sym, refl, ◌∙◌, ⊎_elim, arith}
 use Rattle.std.proofs.lemmas.Bool.{both_ways, and_parts, and_from, or_cases, or_left, or_right, eq-eqb, eqb-true, leb-true, le-leb}
 use Rattle.std.proofs.lemmas.Bool.Decides.{nat_tests}
 use Rattle.std.proofs.lemmas.Int.{ints}
@@ -32,24 +31,15 @@ module _ (p : Fact → Bool) (r : ℕ) where
 
   pub found_some : (xs : List Fact) (f : Fact) → Has xs r f → p f ≡ true → any_of p (of_relation r xs) ≡ true
   found_some [] f h k = absurd (both_ways false refl h.0)
-  found_some (x ∷ xs) f h k =
-      by_bool (eqb x.relation r)
-      (λ q. rw q (⊎_elim (λ s. or_left _ _ (subst (λ (y : Fact). p y ≡ true) (same_eq f x s) k)) (λ s. or_right _ _ (found_some xs f (s, h.1) k)) (or_cases _ _ h.0)))
-      (λ q. rw q (⊎_elim (λ s. absurd (both_ways _ q (eq-eqb _ _ (ap (λ (y : Fact). y.relation) (sym (same_eq f x s)) ∙ h.1)))) (λ s. found_some xs f (s, h.1) k) (or_cases _ _ h.0)))
+  found_some (x ∷ xs) f h k = let rest = found_some xs f in let same = same_eq f x in grind (arith, nat_tests)
 
   pub every_passes : (xs : List Fact) → all_of p (of_relation r xs) ≡ true → (f : Fact) → Has xs r f → p f ≡ true
   every_passes [] e f h = absurd (both_ways false refl h.0)
-  every_passes (x ∷ xs) e f h =
-      by_bool (eqb x.relation r)
-      (λ q. let e' : (p x && all_of p (of_relation r xs)) ≡ true = rw q at e in
-      ⊎_elim (λ s. subst (λ (y : Fact). p y ≡ true) (sym (same_eq f x s)) (and_parts _ _ e').0) (λ s. every_passes xs (and_parts _ _ e').1 f (s, h.1)) (or_cases _ _ h.0))
-      (λ q. ⊎_elim (λ s. absurd (both_ways _ q (eq-eqb _ _ (ap (λ (y : Fact). y.relation) (sym (same_eq f x s)) ∙ h.1)))) (λ s. every_passes xs (rw q at e) f (s, h.1)) (or_cases _ _ h.0))
+  every_passes (x ∷ xs) e f h = let rest = every_passes xs in let same = same_eq f x in grind (arith, nat_tests)
 
   pub passes_every : (xs : List Fact) → ((f : Fact) → Has xs r f → p f ≡ true) → all_of p (of_relation r xs) ≡ true
   passes_every [] h = refl
-  passes_every (x ∷ xs) h =
-      let rest = passes_every xs (λ f m. h f (there r x f xs m)) in
-      by_bool (eqb x.relation r) (λ q. rw q (and_from _ _ (h x (here r x xs q)) rest)) (λ q. rw q rest)
+  passes_every (x ∷ xs) h = let rest = passes_every xs (λ f m. h f (there r x f xs m)) in let first : eqb x.relation r ≡ true → p x ≡ true = λ q. h x (here r x xs q) in grind (arith, nat_tests)
 
 -- ---- tests and what they decide
 
@@ -61,19 +51,11 @@ from_value : (low high : ℤ) (f : Fact) → FromTo low high f.value → value_i
 unfolding value_in
 from_value low high f h = let a = h.0 in let b = h.1 in grind (arith, nat_tests, ints)
 
-at_most_from : (a b : ℤ) → le_z a b ≡ true → a ≤ℤ b
-at_most_from a b e = grind (arith, ints)
-
-from_at_most : (a b : ℤ) → a ≤ℤ b → le_z a b ≡ true
-from_at_most a b e = grind (arith, ints)
-
 level_from : (f g : Fact) → (not (same_key f g) || at_most f g) ≡ true → g.key ≡ f.key → f.value ≤ℤ g.value
-level_from f g e k =
-    let q : same_key f g ≡ true = eq-eqb _ _ k in
-    at_most_from _ _ (rw q at e)
+level_from f g e k = grind (arith, nat_tests, ints)
 
 from_level : (f g : Fact) → (g.key ≡ f.key → f.value ≤ℤ g.value) → (not (same_key f g) || at_most f g) ≡ true
-from_level f g h = by_bool (same_key f g) (λ q. rw q (from_at_most _ _ (h (eqb-true _ _ q)))) (λ q. rw q)
+from_level f g h = grind (arith, nat_tests, ints)
 
 -- ---- the six queries
 

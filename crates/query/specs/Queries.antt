@@ -1,5 +1,6 @@
 -- The six queries, on the set of facts of one state. A set stands as the list of its facts.
-use Rattle.std.specs.Prelude.{Bool, true, false, not, ◌&&◌, ◌||◌, List, [], ◌∷◌, length, ◌==◌, int_le, nat_le}
+use Rattle.std.specs.Prelude.{Bool, false, not, ◌&&◌, ◌||◌, List, length, ◌==◌, int_le, nat_le}
+use Rattle.std.specs.List.{list_any, list_all}
 use Rattle.store.specs.declared.facts.Fact.{Fact}
 use Rattle.store.specs.Facts.{fact_of, holds, of_relation, value_in}
 use Rattle.syntax.specs.declared.Query.{Query}
@@ -9,12 +10,10 @@ use Rattle.syntax.specs.declared.Node.TheVariants as node
 
 -- some fact passes; every fact passes
 abbrev pub any_of : (Fact → Bool) → List Fact → Bool
-any_of p [] = false
-any_of p (x ∷ xs) = p x || any_of p xs
+any_of p xs = list_any p xs
 
 abbrev pub all_of : (Fact → Bool) → List Fact → Bool
-all_of p [] = true
-all_of p (x ∷ xs) = p x && all_of p xs
+all_of p xs = list_all p xs
 
 abbrev pub same_key : Fact → Fact → Bool
 same_key x y = y.key == x.key

@@ -4,8 +4,8 @@
 #![tactic(auto)]
 
 mod answers;
+mod relations;
 mod rows;
-mod walks;
 
 pub use answers::ask;
 pub use rows::row;
