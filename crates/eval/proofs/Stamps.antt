@@ -1,9 +1,9 @@
 -- Stamps, windows and bounds.
-use Rattle.std.proofs.Common.{◌≡◌, ℕ, zero, suc, ◌+◌, ◌-◌, ◌<◌, ◌≤◌, true, false, ◌&&◌, ltb, leb, List, [], ◌∷◌, length, get_or, drop, Some, None, Option, sym, refl, ap, ◌∙◌, ⊎_elim, le_of_eq, arith}
+use Rattle.std.proofs.Common.{◌≡◌, ℕ, zero, suc, ◌+◌, ◌<◌, ◌≤◌, Bool, true, false, ltb, leb, List, [], ◌∷◌, length, get_or, Some, None, Option, sym, refl, ap, ◌∙◌, subst, ⊎_elim, true≢false, le_of_eq, arith}
 use mathlib.Core.Bool.{false≢true}
-use Rattle.std.proofs.lemmas.List.{drop_more, at_drop_more, at_drop_all}
+use Rattle.std.specs.List.{IsAllAdjacentAnswer}
 use Rattle.eval.specs.Stamps.{rising}
-use Rattle.std.proofs.lemmas.Bool.{leb-true, leb-false, le-leb, lt-leb, ltb-true, lt-ltb, le-ltb, and_left, and_right, and_from, and_parts, cases_eq, cases_lt}
+use Rattle.std.proofs.lemmas.Bool.{leb-true, leb-false, le-leb, lt-leb, ltb-true, lt-ltb, and_right, and_from, and_parts, cases_eq}
 use Rattle.syntax.specs.declared.Window.{Window}
 use Rattle.eval.specs.Truth.{Record, count, stamp, below, closed, within}
 use Rattle.eval.proofs.Theorems.{Rising}
@@ -23,36 +23,6 @@ closed_out w d e h lt = and_right (leb w.low e) (below w.high e) (go w.high h)
     go (Some b) h = lt-leb e b (omega (arith, leb-true b d h))
     go None h = absurd (false≢true h)
 
--- ---- stamps that rise, gone through from the first
-
-rising_step : (ts : List ℕ) (i : ℕ) → 0 < i → i < length ts → rising (drop (i - 1) ts) ≡ (ltb (get_or ts (i - 1) 0) (get_or ts i 0) && rising (drop i ts))
-rising_step ts i p l =
-    let e : i - 1 + 1 ≡ i = omega arith in
-    at_drop_more rising ts (i - 1) 0 (omega arith)
-    ∙ ap (λ n. rising (get_or ts (i - 1) 0 ∷ drop n ts)) e
-    ∙ ap (λ xs. rising (get_or ts (i - 1) 0 ∷ xs)) (drop_more ts i 0 l)
-    ∙ ap (λ xs. ltb (get_or ts (i - 1) 0) (get_or ts i 0) && rising xs) (sym (drop_more ts i 0 l))
-
-module _ (ts : List ℕ) (i : ℕ) (p : 0 < i) (inv : rising (drop (i - 1) ts) ≡ rising ts) where
-  pub rising_stops : i < length ts → get_or ts i 0 ≤ get_or ts (i - 1) 0 → false ≡ rising ts
-  rising_stops l h = sym (and_left _ _ (le-ltb (get_or ts (i - 1) 0) (get_or ts i 0) h)) ∙ sym (rising_step ts i p l) ∙ inv
-
-  pub rising_goes : i < length ts → get_or ts (i - 1) 0 < get_or ts i 0 → (0 < i + 1) × (rising (drop (i + 1 - 1) ts) ≡ rising ts)
-  rising_goes l h =
-      let e : i + 1 - 1 ≡ i = omega arith in (
-        omega arith,
-        ap (λ n. rising (drop n ts)) e ∙ sym (ap (λ b. b && rising (drop i ts)) (lt-ltb (get_or ts (i - 1) 0) (get_or ts i 0) h)) ∙ sym (rising_step ts i p l) ∙ inv,
-      )
-
-  pub rising_ends : length ts ≤ i → true ≡ rising ts
-  rising_ends l =
-      ⊎_elim
-      (λ lt.
-      let e : length ts ≤ i - 1 + 1 = omega arith in
-      sym (at_drop_more rising ts (i - 1) 0 lt ∙ at_drop_all (λ xs. rising (get_or ts (i - 1) 0 ∷ xs)) ts (i - 1 + 1) e) ∙ inv)
-      (λ le. sym (at_drop_all rising ts (i - 1) le) ∙ inv)
-      (cases_lt (i - 1) (length ts))
-
 -- stamps that rise from each to the next rise from each to all later ones
 pub rises : (ts : List ℕ) → rising ts ≡ true → (i j : ℕ) → i < j → j < length ts → get_or ts i 0 < get_or ts j 0
 rises [] up i j lt lj = absurd (omega arith)
@@ -66,11 +36,28 @@ rises (x ∷ (y ∷ rest)) up (suc i) zero lt lj = absurd (omega arith)
 rises (x ∷ (y ∷ rest)) up (suc i) (suc j) lt lj =
     rises (y ∷ rest) (and_parts (ltb x y) (rising (y ∷ rest)) up).1 i j (omega arith) (omega arith)
 
+-- stamps each later than the one before
+rising_adjacent : (ts : List ℕ) → ((k : ℕ) → suc k < length ts → get_or ts k 0 < get_or ts (suc k) 0) → rising ts ≡ true
+rising_adjacent [] up = refl
+rising_adjacent (x ∷ []) up = refl
+rising_adjacent (x ∷ (y ∷ rest)) up = and_from _ _ (lt-ltb x y (up 0 (omega arith))) (rising_adjacent (y ∷ rest) (λ k l. up (suc k) (omega arith)))
+
 pub rising_from : (ts : List ℕ) → ((i j : ℕ) → i < j → j < length ts → get_or ts i 0 < get_or ts j 0) → rising ts ≡ true
-rising_from [] up = refl
-rising_from (x ∷ []) up = refl
-rising_from (x ∷ (y ∷ rest)) up =
-    and_from _ _ (lt-ltb x y (up 0 1 (omega arith) (omega arith))) (rising_from (y ∷ rest) (λ i j lt lj. up (suc i) (suc j) (omega arith) (omega arith)))
+rising_from ts up = rising_adjacent ts (λ k l. up k (suc k) (omega arith) l)
+
+false_from : (b : Bool) → (b ≡ true → ⊥) → false ≡ b
+false_from true h = absurd (h refl)
+false_from false h = refl
+
+-- the answer that a look at each stamp and the next gives
+pub rising_answer : (ts : List ℕ) (r : Bool) → IsAllAdjacentAnswer (λ x y b. b ≡ ltb x y) ts r → r ≡ rising ts
+rising_answer ts true each =
+    sym
+    (rising_adjacent ts
+    (λ k l.
+    let e : k + 1 ≡ suc k = omega arith in
+    ltb-true _ _ (subst (λ (n : ℕ). ltb (get_or ts k 0) (get_or ts n 0) ≡ true) e (sym (each k 0 (omega arith))))))
+rising_answer ts false (k, l, here) = false_from (rising ts) (λ up. true≢false (sym (lt-ltb _ _ (rises ts up k (k + 1) (omega arith) l)) ∙ sym (here 0)))
 
 pub rises_le : (ts : List ℕ) → rising ts ≡ true → (i j : ℕ) → i ≤ j → j < length ts → get_or ts i 0 ≤ get_or ts j 0
 rises_le ts up i j le lj =

@@ -1,12 +1,13 @@
 -- One turn of an operator's loop, and what the loop then comes to: d is a distance, t the test, y the value at the state, z what is joined.
 use Rattle.std.proofs.Common.{◌≡◌, ℕ, zero, suc, ◌+◌, ◌-◌, ◌<◌, ◌≤◌, Bool, true, false, cond, ◌&&◌, ltb, leb, sym, refl, ap, ◌∙◌, ap₂, arith}
 use Rattle.std.proofs.lemmas.Bool.{le-leb, lt-leb, lt-ltb, and_left, and_right, cond-true}
+use Rattle.std.specs.List.{fold, range_with_len}
 use Rattle.truth.specs.Kinds.{Kind, Laws}
 use Rattle.syntax.specs.declared.Window.{Window}
 use Rattle.eval.specs.Truth.{any, all, Record, count, stamp, below, within, future, past, next}
 use Rattle.eval.specs.Stamps.{rising, span}
 use Rattle.eval.proofs.Stamps.{rises_le, beyond_far, beyond_out}
-use Rattle.eval.proofs.Folds.{no_or, any_stop, any_none, all_none, all_front}
+use Rattle.eval.proofs.Folds.{joined, any_fold, no_or, any_stop, any_none, all_none, all_front}
 
 -- a test with a first part that is known
 test_true : {K : Type 0} (a b : Bool) (x y : K) → a ≡ true → cond (a && b) x y ≡ cond b x y
@@ -20,6 +21,15 @@ module _ {K : Type 0} (k : Kind K) (f g : ℕ → K) (i : ℕ) where
 
   abbrev pub lasting : ℕ → K
   lasting j = k.and (g j) (all k (suc i) (λ m. ltb j m) f)
+
+-- yes at every state that passes a test
+kept_yes : {K : Type 0} {k : Kind K} (laws : Laws k) (n : ℕ) (p : ℕ → Bool) → all k n p (λ _. k.yes) ≡ k.yes
+kept_yes laws zero p = refl
+kept_yes {k = k} laws (suc n) p = ap₂ k.and (kept_yes laws n p) (same (p n)) ∙ laws.and_yes k.yes
+  where
+    same : (b : Bool) → cond b k.yes k.yes ≡ k.yes
+    same true = refl
+    same false = refl
 
 module _ {K : Type 0} {k : Kind K} (laws : Laws k) (r : Record K) (w : Window) where
   -- ---- the future window of state i, from i on
@@ -48,6 +58,15 @@ module _ {K : Type 0} {k : Kind K} (laws : Laws k) (r : Record K) (w : Window) w
       (λ j l h.
       let far = rises_le r.stamps up end j l h in
       and_right (leb i j) _ (beyond_out w _ (beyond_far w.high _ _ (beyond (omega arith)) (omega arith)))))
+
+  pub future_fold : (f : ℕ → K) (i end : ℕ) → rising r.stamps ≡ true → i ≤ end → end ≤ count r
+      → (end < count r → below w.high (span r.stamps i end) ≡ false)
+      → fold (joined k (λ j. within w (span r.stamps i j)) f) k.no (range_with_len i (end - i)) ≡ any k (count r) (future k r w i) f
+  future_fold f i end up le ends beyond =
+      future_end f i (i + (end - i)) end up (omega arith) (omega arith) le ends beyond
+      (any_fold k (λ j. within w (span r.stamps i j)) (future k r w i) f f (end - i) i
+      (λ j h _. sym (test_true (leb i j) _ (f j) k.no (le-leb i j h)))
+      (future_start f i))
 
   -- ---- the first operand of until, from state i on
 
@@ -82,17 +101,21 @@ module _ {K : Type 0} {k : Kind K} (laws : Laws k) (r : Record K) (w : Window) w
       ∙ ap (k.or (any k (j - 1) (past k r w i) f)) (ap (λ v. k.or v x) (sym here) ∙ sym pq)
 
   -- no state before the window's start counts
+  past_none : (f : ℕ → K) (i start : ℕ) → rising r.stamps ≡ true → i < count r → start ≤ i + 1
+      → (0 < start → below w.high (span r.stamps (start - 1) i) ≡ false)
+      → any k start (past k r w i) f ≡ k.no
+  past_none f i start up li le beyond =
+      any_none laws start (past k r w i) f
+      (λ j l.
+      let far = rises_le r.stamps up j (start - 1) (omega arith) (omega arith) in
+      and_right (leb j i) _ (beyond_out w _ (beyond_far w.high _ _ (beyond (omega arith)) (omega arith))))
+
   pub past_end : (f : ℕ → K) (i j start : ℕ) {x : K} → rising r.stamps ≡ true → i < count r → j ≤ start → start ≤ j → start ≤ i + 1
       → (0 < start → below w.high (span r.stamps (start - 1) i) ≡ false)
       → Back f i j x → x ≡ any k (suc i) (past k r w i) f
   past_end f i j start {x} up li lo hi le beyond inv =
       let same : j ≡ start = omega arith in
-      let none : any k start (past k r w i) f ≡ k.no =
-      any_none laws start (past k r w i) f
-      (λ j l.
-      let far = rises_le r.stamps up j (start - 1) (omega arith) (omega arith) in
-      and_right (leb j i) _ (beyond_out w _ (beyond_far w.high _ _ (beyond (omega arith)) (omega arith)))) in
-      sym (inv ∙ ap (λ n. k.or (any k n (past k r w i) f) x) same ∙ ap (λ v. k.or v x) none ∙ no_or laws x)
+      sym (inv ∙ ap (λ n. k.or (any k n (past k r w i) f) x) same ∙ ap (λ v. k.or v x) (past_none f i start up li le beyond) ∙ no_or laws x)
 
   -- ---- the first operand of since, after state j up to i
 
@@ -112,17 +135,20 @@ module _ {K : Type 0} {k : Kind K} (laws : Laws k) (r : Record K) (w : Window) w
       let less : j ≡ suc (j - 1) = omega arith in
       pq ∙ ap₂ k.and py (inv ∙ ap (λ n. all k (suc i) (λ m. leb n m) f) less)
 
-  -- once: truth holds after every state
-  all_yes : (n : ℕ) (p : ℕ → Bool) → all k n p (λ _. k.yes) ≡ k.yes
-  all_yes zero p = refl
-  all_yes (suc n) p = ap₂ k.and (all_yes n p) (same (p n)) ∙ laws.and_yes k.yes
-    where
-      same : (b : Bool) → cond b k.yes k.yes ≡ k.yes
-      same true = refl
-      same false = refl
+  -- once: yes holds after every state
+  once_here : (g : ℕ → K) (i j : ℕ) → g j ≡ lasting k (λ _. k.yes) g i j
+  once_here g i j = sym (laws.and_yes (g j)) ∙ ap (k.and (g j)) (sym (kept_yes laws (suc i) (λ m. ltb j m)))
 
-  pub once_here : (g : ℕ → K) (i j : ℕ) {y : K} → y ≡ g (j - 1) → y ≡ k.and (g (j - 1)) (all k (suc i) (λ m. ltb (j - 1) m) (λ _. k.yes))
-  once_here g i j py = py ∙ sym (laws.and_yes (g (j - 1))) ∙ ap (k.and (g (j - 1))) (sym (all_yes (suc i) (λ m. ltb (j - 1) m)))
+  pub once_fold : (g : ℕ → K) (i start : ℕ) → rising r.stamps ≡ true → i < count r → start ≤ i + 1
+      → (0 < start → below w.high (span r.stamps (start - 1) i) ≡ false)
+      → fold (joined k (λ j. within w (span r.stamps j i)) g) k.no (range_with_len start (i + 1 - start)) ≡ any k (suc i) (past k r w i) (lasting k (λ _. k.yes) g i)
+  once_fold g i start up li le beyond =
+      let f = lasting k (λ _. k.yes) g i in
+      let whole : start + (i + 1 - start) ≡ suc i = omega arith in
+      any_fold k (λ j. within w (span r.stamps j i)) (past k r w i) g f (i + 1 - start) start
+      (λ j _ h. ap (λ v. cond (within w (span r.stamps j i)) v k.no) (once_here g i j) ∙ sym (test_true (leb j i) _ (f j) k.no (le-leb j i (omega arith))))
+      (sym (past_none f i start up li le beyond))
+      ∙ ap (λ n. any k n (past k r w i) f) whole
 
   -- ---- next
 

@@ -2,6 +2,8 @@ pub mod Truth
 pub mod Stamps
 pub mod Rows
 pub mod Columns
+pub mod Outlooks
+pub mod Evaluations
 pub mod Steps
 pub mod Standing
 pub mod Values

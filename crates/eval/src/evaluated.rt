@@ -1,17 +1,17 @@
 //! A record that grows state by state, with the value of every node of a table at every state.
 //!
 //! True and false stay while the record grows and when it is finished, so only what is undecided is worked out again.
-ghost use Rattle.std.specs.Prelude.{◌≡◌, ℕ, ◌+◌, ◌*◌, ◌<◌, ◌≤◌, true, false, [], ◌∷◌, ◌++◌, length, is_ok, if◌then◌else◌, vec_len, vec_capacity, slice_index_or};
+ghost use Rattle.std.specs.Prelude.{◌≡◌, ◌*◌, ◌<◌, ◌≤◌, true, false, [], ◌∷◌, ◌++◌, length, is_ok, if◌then◌else◌, vec_len, vec_capacity};
 ghost use Rattle.truth.specs.Kleene.{three};
-ghost use Rattle.truth.specs.declared.Three.{Three as Value};
 ghost use Rattle.truth.specs.declared.Three.TheVariants.{False, Undecided};
 ghost use Rattle.rules.specs.Tables.{nodes_of};
 ghost use Rattle.eval.specs.Growing.{latest, later_than, growing_record, state_fit, value_in};
+ghost use Rattle.eval.specs.Rows.{row_record};
 ghost use Rattle.eval.specs.Standing.{Right, stays_decided};
 ghost use Rattle.eval.specs.Stamps.{rising};
 ghost use Rattle.eval.specs.Values.{all_values};
 
-use crate::evaluator::settle_all;
+use crate::evaluation::Evaluation;
 use crate::leaves::Rows;
 use crate::misfit::Misfit;
 use crate::room::RecordRoom;
@@ -21,6 +21,9 @@ use truth::Three;
 
 /// At most 512 states: the stamp of each, the row of the queries' answers there, and the value of every node,
 /// which is what the definitions give for the stamps and rows.
+// Stays: stamps and rows are two vectors: the evaluator takes stamps as a slice, and pairs would have to be copied at
+// each push, which allocates nothing.
+// Stays: `finished` stands beside nothing: a finished record keeps all that it has.
 #[derive(Drop)]
 pub struct EvaluatedRecord<'t> {
     pub(crate) table: &'t Table,
@@ -70,7 +73,8 @@ impl<'t> EvaluatedRecord<'t> {
     pub fn is_finished(&self) -> bool
         ensures { result ≡ self.now.finished }
     {
-        self.finished
+        let EvaluatedRecord { finished, .. } = self;
+        *finished
     }
 
     /// How many states there are. Cost: constant.
@@ -84,11 +88,7 @@ impl<'t> EvaluatedRecord<'t> {
     pub fn last_stamp(&self) -> Option<u64>
         ensures { result ≡ latest self.now.stamps.items }
     {
-        let count = self.stamps.len();
-        if count == 0 {
-            return None;
-        }
-        Some(self.stamps[count - 1])
+        self.stamps.last().copied()
     }
 
     /// The value of a node at a state, if there are such. Cost: a look-up.
@@ -96,11 +96,8 @@ impl<'t> EvaluatedRecord<'t> {
         ensures { result ≡ value_in (nodes_of self.now.table.now) self.now.stamps.items (growing_record self.now.stamps.items self.now.rows.items self.now.finished) node state }
     {
         let nodes = self.table.nodes().len();
-        if node < nodes && state < self.stamps.len() {
-            Some(self.values[state * nodes + node])
-        } else {
-            None
-        }
+        let values = self.values.as_slice();
+        (node < nodes && state < self.stamps.len()).then(|| values[state * nodes + node])
     }
 
     /// One more state, with its row; refused with no room for it, or a stamp that is not later than the last, and the
@@ -119,17 +116,17 @@ impl<'t> EvaluatedRecord<'t> {
         Ok(())
     }
 
-    // Whether a state can come at the stamp.
+    /// Whether a state can come at the stamp.
     fn admits(&self, stamp: u64) -> Result<(), Misfit>
         ensures { result ≡ state_fit self.now.stamps.items stamp }
     {
         if self.stamps.len() >= 512 {
             return Err(Misfit::Room);
         }
-        match self.last_stamp() {
-            Some(last) if stamp <= last => Err(Misfit::Stamps),
-            _ => Ok(()),
+        if self.last_stamp().is_some_and(|last| stamp <= last) {
+            return Err(Misfit::Stamps);
         }
+        Ok(())
     }
 
     fn take(&mut self, stamp: u64, row: u64)
@@ -141,14 +138,16 @@ impl<'t> EvaluatedRecord<'t> {
         ensures finished { self.new.finished ≡ self.old.finished }
     {
         let standing = self.standing();
+        let pending = self.pending();
+        let places = self.values.len() + self.table.nodes().len();
         self.stamps.push_reserved(stamp);
         self.rows.push_reserved(row);
-        widen(&mut self.values, self.table.nodes().len());
+        self.values.resize(places, Three::Undecided).unwrap();
         evaluate_rest(
             self.table,
             self.stamps.as_slice(),
             self.rows.as_slice(),
-            self.finished,
+            pending,
             standing,
             &mut self.values,
         );
@@ -167,64 +166,53 @@ impl<'t> EvaluatedRecord<'t> {
             self.table,
             self.stamps.as_slice(),
             self.rows.as_slice(),
-            true,
+            Three::False,
             standing,
             &mut self.values,
         );
     }
 
-    // Which values stand when the record goes on: while it runs those that are decided, and once it is finished none.
+    /// Which values stand when the record goes on: while it runs those that are decided, and once it is finished none.
     fn standing(&self) -> Decided
         ensures { result.states ≡ (if self.now.finished then 0 else length self.now.stamps.items) }
     {
         let states = if self.finished { 0 } else { self.stamps.len() };
         Decided { states }
     }
+
+    /// What is left open while states may still come.
+    fn pending(&self) -> Three
+        ensures { result ≡ (if self.now.finished then False else Undecided) }
+    {
+        if self.finished {
+            Three::False
+        } else {
+            Three::Undecided
+        }
+    }
 }
 
-// That many more values, which are worked out next.
-fn widen(values: &mut Vec<Three>, count: usize)
-    requires { (count ≤ 64) × (vec_len values.old + count ≤ vec_capacity values.old) }
-    ensures len { vec_len values.new ≡ vec_len values.old + count }
-    ensures capacity { vec_capacity values.old ≤ vec_capacity values.new }
-    ensures old { (k : ℕ) (d : Value) → k < vec_len values.old → slice_index_or values.new.items k d ≡ slice_index_or values.old.items k d }
-{
-    // The memory was reserved, so this is not refused.
-    let _ = values.extend_from_slice(&[Three::Undecided; 64][0..count]);
-}
-
-// The values of every node at every state, but for those that stand.
+/// The values of every node at every state, but for those that stand.
 fn evaluate_rest(
     table: &Table,
     stamps: &[u64],
     rows: &[u64],
-    finished: bool,
+    pending: Three,
     standing: Decided,
     values: &mut Vec<Three>,
 )
     requires risen { rising stamps.now ≡ true }
     requires full { vec_len values.old ≡ length stamps.now * length (nodes_of table.now) }
-    requires right { Right three (growing_record stamps.now rows.now finished) (nodes_of table.now) values.old.items (stays_decided standing.states) }
-    ensures values { values.new.items ≡ all_values three (growing_record stamps.now rows.now finished) (nodes_of table.now) }
+    requires right { Right three (row_record three stamps.now rows.now pending) (nodes_of table.now) values.old.items (stays_decided standing.states) }
+    ensures values { values.new.items ≡ all_values three (row_record three stamps.now rows.now pending) (nodes_of table.now) }
     ensures capacity { vec_capacity values.new ≡ vec_capacity values.old }
 {
-    settle_all(
-        table.nodes(),
+    let evaluation = Evaluation {
+        nodes: table.nodes(),
         stamps,
-        &Rows { rows },
-        pending(finished),
-        &standing,
-        values.as_mut_slice(),
-    );
-}
-
-// What is left open while states may still come.
-fn pending(finished: bool) -> Three
-    ensures { result ≡ (if finished then False else Undecided) }
-{
-    if finished {
-        Three::False
-    } else {
-        Three::Undecided
-    }
+        leaves: &Rows { rows },
+        pending,
+        standing,
+    };
+    evaluation.settle_all(values.as_mut_slice());
 }

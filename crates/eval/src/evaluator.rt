@@ -1,224 +1,170 @@
 //! The values of every node of a table at every state of a record.
-ghost use Rattle.std.specs.Prelude.{◌≡◌, ℕ, ◌+◌, ◌*◌, ◌<◌, ◌≤◌, true, length, is_ok, if◌then◌else◌, ◌==◌, slice_index_or, slice_set};
+ghost use Rattle.std.specs.Prelude.{◌≡◌, ◌+◌, ◌*◌, ◌<◌, ◌≤◌, length, is_ok, if◌then◌else◌, ◌==◌, slice_index_or, slice_set};
 ghost use Rattle.rules.specs.Tables.{nodes_of};
-ghost use Rattle.syntax.specs.Nodes.{place, formula_at, Ordered};
+ghost use Rattle.syntax.specs.Nodes.{place, formula_at};
 ghost use Rattle.syntax.specs.declared.Node.TheVariants.{True};
 ghost use Rattle.eval.specs.Columns.{value_at};
-ghost use Rattle.eval.specs.Stamps.{rising, record_of};
+ghost use Rattle.eval.specs.Evaluations.{record_in, kept_in, Fits, Has};
+ghost use Rattle.eval.specs.Stamps.{record_of};
 ghost use Rattle.eval.specs.Standing.{Right};
-ghost use Rattle.eval.specs.Steps.{node_value, kept_of, Filled};
+ghost use Rattle.eval.specs.Steps.{node_value, Filled};
 ghost use Rattle.eval.specs.Truth.{value};
 ghost use Rattle.eval.specs.Values.{all_values, fit};
 
+use crate::evaluation::Evaluation;
 use crate::leaves::Leaves;
 use crate::misfit::Misfit;
-use crate::operators::{
-    at_allnext, at_always, at_next, at_once, at_previous, at_since, at_sofar, at_sometime, at_until,
-};
-use crate::reading::{operand, value_of};
+use crate::operand::{Column, Operand};
+use crate::outlook::Outlook;
 use crate::standing::{Anew, Standing};
 use crate::windows::are_rising;
 use rules::table::Table;
-use syntax::Node;
+use syntax::{Node, Window};
 use truth::Truth;
 
-/// The value of node `m` at state `i`, from the columns of the nodes before it.
-/// `kept` is, for an until, its first operand at every state from `i` on.
-fn node_at<K: Truth, L: Leaves<K>>(
-    node: Node,
-    m: usize,
-    nodes: usize,
-    stamps: &[u64],
-    leaves: &L,
-    pending: K,
-    values: &[K],
-    kept: K,
-    i: usize,
-) -> K
-    requires within { (i < length stamps.now) × ((m < nodes) × (length values.now ≡ length stamps.now * nodes)) }
-    requires rises { rising stamps.now ≡ true }
-    requires before { place node ≤ m }
-    requires keeps { kept ≡ kept_of K.kind (value_at K.kind values.now nodes) (length stamps.now) i node }
-    ensures { result ≡ node_value K.kind (record_of stamps.now (L.leaf leaves.now) pending) (value_at K.kind values.now nodes) m node i }
-{
-    let n = stamps.len();
-    match node {
-        Node::True => K::yes(),
-        Node::Query(_) => leaves.value(i, m),
-        Node::Not(a) => value_of(values, n, nodes, a, i).not(),
-        Node::And(a, b) => value_of(values, n, nodes, a, i).and(value_of(values, n, nodes, b, i)),
-        Node::Or(a, b) => value_of(values, n, nodes, a, i).or(value_of(values, n, nodes, b, i)),
-        Node::Implies(a, b) => value_of(values, n, nodes, a, i)
-            .not()
-            .or(value_of(values, n, nodes, b, i)),
-        Node::Next(w, a) => at_next(stamps, &operand(values, n, nodes, a), i, w, pending),
-        Node::AllNext(w, a) => at_allnext(stamps, &operand(values, n, nodes, a), i, w, pending),
-        Node::Sometime(w, a) => at_sometime(stamps, &operand(values, n, nodes, a), i, w, pending),
-        Node::Always(w, a) => at_always(stamps, &operand(values, n, nodes, a), i, w, pending),
-        Node::Until(w, a, b) => {
-            at_until(
-                stamps,
-                &operand(values, n, nodes, a),
-                &operand(values, n, nodes, b),
-                kept,
-                i,
-                w,
-                pending,
-            )
-        }
-        Node::Previous(w, a) => at_previous(stamps, &operand(values, n, nodes, a), i, w),
-        Node::Once(w, a) => at_once(stamps, &operand(values, n, nodes, a), i, w),
-        Node::SoFar(w, a) => at_sofar(stamps, &operand(values, n, nodes, a), i, w),
-        Node::Since(w, a, b) => {
-            at_since(
-                stamps,
-                &operand(values, n, nodes, a),
-                &operand(values, n, nodes, b),
-                i,
-                w,
-            )
+// Stays: the values are a parameter. A struct that kept them by `&mut` would have to say in each contract that the
+// reference and each other field are as they were.
+impl<K: Truth, L: Leaves<K>, S: Standing<K>> Evaluation<'_, K, L, S> {
+    /// Node `m`.
+    fn node(&self, m: usize) -> Node
+        requires { m < length self.now.nodes.now }
+        ensures value { result ≡ slice_index_or self.now.nodes.now m True }
+        ensures before { place result ≤ m }
+    {
+        self.nodes[m]
+    }
+
+    /// State `i`, with a window.
+    fn from(&self, i: usize, window: Window) -> Outlook<'_>
+        requires { i < length self.now.stamps.now }
+        ensures { (result.stamps.now ≡ self.now.stamps.now) × (result.state ≡ i) × (result.window ≡ window) }
+    {
+        Outlook {
+            stamps: self.stamps,
+            state: i,
+            window,
         }
     }
-}
 
-/// For an until, its first operand at every state from `i` on, where `later` is that from the next state on.
-fn kept_at<K: Truth>(node: Node, nodes: usize, states: usize, values: &[K], i: usize, later: K) -> K
-    requires within { (i < states) × ((length values.now ≡ states * nodes) × (place node ≤ nodes)) }
-    requires keeps { later ≡ kept_of K.kind (value_at K.kind values.now nodes) states (i + 1) node }
-    ensures { result ≡ kept_of K.kind (value_at K.kind values.now nodes) states i node }
-{
-    match node {
-        Node::Until(_, a, _) => value_of(values, states, nodes, a, i).and(later),
-        _ => later,
+    /// The values of node `a`.
+    fn column<'v>(&self, values: &'v [K], a: usize) -> Column<'v, K>
+        requires { (a < length self.now.nodes.now) × Fits self.now values.now }
+        ensures states { result.states ≡ length self.now.stamps.now }
+        ensures value { value_at K.kind result.values.now result.nodes result.node ≡ value_at K.kind values.now (length self.now.nodes.now) a }
+    {
+        Column {
+            values,
+            states: self.stamps.len(),
+            nodes: self.nodes.len(),
+            node: a,
+        }
     }
-}
 
-/// Puts the value of node `m` at state `i` into its place.
-fn write<K: Truth>(values: &mut [K], states: usize, nodes: usize, m: usize, i: usize, value: K)
-    requires { (length values.old ≡ states * nodes) × ((m < nodes) × (i < states)) }
-    ensures { values.new ≡ slice_set values.old (i * nodes + m) value }
-{
-    values[i * nodes + m] = value;
-}
-
-/// Puts the value of node `m` at state `i` into its place, unless what is there stands.
-/// `kept` is, for an until, its first operand at every state from `i` on.
-fn settle<K: Truth, L: Leaves<K>, S: Standing<K>>(
-    nodes: &[Node],
-    m: usize,
-    stamps: &[u64],
-    leaves: &L,
-    pending: K,
-    standing: &S,
-    values: &mut [K],
-    kept: K,
-    i: usize,
-)
-    requires within { (m < length nodes.now) × ((i < length stamps.now) × (length values.old ≡ length stamps.now * length nodes.now)) }
-    requires rises { rising stamps.now ≡ true }
-    requires ordered { Ordered nodes.now }
-    requires filled { Filled K.kind (record_of stamps.now (L.leaf leaves.now) pending) nodes.now values.old m }
-    requires right { Right K.kind (record_of stamps.now (L.leaf leaves.now) pending) nodes.now values.old (S.stays standing.now) }
-    requires keeps { kept ≡ kept_of K.kind (value_at K.kind values.old (length nodes.now)) (length stamps.now) i (slice_index_or nodes.now m True) }
-    ensures { values.new ≡ slice_set values.old (i * length nodes.now + m) (value K.kind (record_of stamps.now (L.leaf leaves.now) pending) (formula_at nodes.now m) i) }
-{
-    if standing.stands(i, value_of(values, stamps.len(), nodes.len(), m, i)) {
-        return;
+    /// The value of node `a` at state `i`.
+    fn value(&self, values: &[K], a: usize, i: usize) -> K
+        requires { Has self.now a i × Fits self.now values.now }
+        ensures { result ≡ value_at K.kind values.now (length self.now.nodes.now) a i }
+    {
+        self.column(values, a).read(i)
     }
-    let value = node_at(
-        nodes[m],
-        m,
-        nodes.len(),
-        stamps,
-        leaves,
-        pending,
-        values,
-        kept,
-        i,
-    );
-    write(values, stamps.len(), nodes.len(), m, i, value);
-}
 
-/// Puts the values of node `m` at every state into their places, from the last state to the first, but for those that
-/// stand.
-fn settle_node<K: Truth, L: Leaves<K>, S: Standing<K>>(
-    nodes: &[Node],
-    m: usize,
-    stamps: &[u64],
-    leaves: &L,
-    pending: K,
-    standing: &S,
-    values: &mut [K],
-)
-    requires within { (m < length nodes.now) × (length values.old ≡ length stamps.now * length nodes.now) }
-    requires rises { rising stamps.now ≡ true }
-    requires ordered { Ordered nodes.now }
-    requires filled { Filled K.kind (record_of stamps.now (L.leaf leaves.now) pending) nodes.now values.old m }
-    requires right { Right K.kind (record_of stamps.now (L.leaf leaves.now) pending) nodes.now values.old (S.stays standing.now) }
-    ensures filled { Filled K.kind (record_of stamps.now (L.leaf leaves.now) pending) nodes.now values.new (m + 1) }
-    ensures right { Right K.kind (record_of stamps.now (L.leaf leaves.now) pending) nodes.now values.new (S.stays standing.now) }
-{
-    let mut held = K::yes();
-    for i in (0..stamps.len()).rev() {
-        held = kept_at(nodes[m], nodes.len(), stamps.len(), values, i, held);
-        settle(nodes, m, stamps, leaves, pending, standing, values, held, i);
+    /// The value of node `m` at state `i`, from the columns of the nodes before it.
+    /// `kept` is, for an until, its first operand at every state from `i` on.
+    fn node_at(&self, values: &[K], m: usize, i: usize, kept: K) -> K
+        requires within { Has self.now m i × Fits self.now values.now }
+        requires keeps { kept ≡ kept_in K.kind self.now values.now m i }
+        ensures { result ≡ node_value K.kind (record_in L.leaf self.now) (value_at K.kind values.now (length self.now.nodes.now)) m (slice_index_or self.now.nodes.now m True) i }
+    {
+        let pending = self.pending;
+        match self.node(m) {
+            Node::True => K::yes(),
+            Node::Query(_) => self.leaves.value(i, m),
+            Node::Not(a) => self.value(values, a, i).not(),
+            Node::And(a, b) => self.value(values, a, i).and(self.value(values, b, i)),
+            Node::Or(a, b) => self.value(values, a, i).or(self.value(values, b, i)),
+            Node::Implies(a, b) => self.value(values, a, i).not().or(self.value(values, b, i)),
+            Node::Next(w, a) => self.from(i, w).next(&self.column(values, a), pending),
+            Node::AllNext(w, a) => self.from(i, w).allnext(&self.column(values, a), pending),
+            Node::Sometime(w, a) => self.from(i, w).sometime(&self.column(values, a), pending),
+            Node::Always(w, a) => self.from(i, w).always(&self.column(values, a), pending),
+            Node::Until(w, a, b) => {
+                let (first, second) = (self.column(values, a), self.column(values, b));
+                self.from(i, w).until(&first, &second, kept, pending)
+            }
+            Node::Previous(w, a) => self.from(i, w).previous(&self.column(values, a)),
+            Node::Once(w, a) => self.from(i, w).once(&self.column(values, a)),
+            Node::SoFar(w, a) => self.from(i, w).sofar(&self.column(values, a)),
+            Node::Since(w, a, b) => {
+                let (first, second) = (self.column(values, a), self.column(values, b));
+                self.from(i, w).since(&first, &second)
+            }
+        }
     }
-}
 
-/// Puts the values of every node at every state into their places, but for those that stand.
-/// Cost: a look at each value, and for each that does not stand the states of its window.
-pub(crate) fn settle_all<K: Truth, L: Leaves<K>, S: Standing<K>>(
-    nodes: &[Node],
-    stamps: &[u64],
-    leaves: &L,
-    pending: K,
-    standing: &S,
-    values: &mut [K],
-)
-    requires within { length values.old ≡ length stamps.now * length nodes.now }
-    requires rises { rising stamps.now ≡ true }
-    requires ordered { Ordered nodes.now }
-    requires right { Right K.kind (record_of stamps.now (L.leaf leaves.now) pending) nodes.now values.old (S.stays standing.now) }
-    ensures { values.new ≡ all_values K.kind (record_of stamps.now (L.leaf leaves.now) pending) nodes.now }
-{
-    for m in 0..nodes.len() {
-        settle_node(nodes, m, stamps, leaves, pending, standing, values);
+    /// For an until, its first operand at every state from `i` on, where `later` is that from the next state on.
+    fn kept_at(&self, values: &[K], m: usize, i: usize, later: K) -> K
+        requires within { Has self.now m i × Fits self.now values.now }
+        requires keeps { later ≡ kept_in K.kind self.now values.now m (i + 1) }
+        ensures { result ≡ kept_in K.kind self.now values.now m i }
+    {
+        match self.node(m) {
+            Node::Until(_, a, _) => self.value(values, a, i).and(later),
+            _ => later,
+        }
     }
-}
 
-/// Puts the values of node `m` at every state into their places.
-fn fill_node<K: Truth, L: Leaves<K>>(
-    nodes: &[Node],
-    m: usize,
-    stamps: &[u64],
-    leaves: &L,
-    pending: K,
-    values: &mut [K],
-)
-    requires within { (m < length nodes.now) × (length values.old ≡ length stamps.now * length nodes.now) }
-    requires rises { rising stamps.now ≡ true }
-    requires ordered { Ordered nodes.now }
-    requires filled { Filled K.kind (record_of stamps.now (L.leaf leaves.now) pending) nodes.now values.old m }
-    ensures { Filled K.kind (record_of stamps.now (L.leaf leaves.now) pending) nodes.now values.new (m + 1) }
-{
-    settle_node(nodes, m, stamps, leaves, pending, &Anew, values);
-}
+    /// Puts the value of node `m` at state `i` into its place.
+    fn write(&self, values: &mut [K], m: usize, i: usize, value: K)
+        requires { Has self.now m i × Fits self.now values.old }
+        ensures { values.new ≡ slice_set values.old (i * length self.now.nodes.now + m) value }
+    {
+        values[i * self.nodes.len() + m] = value;
+    }
 
-/// Puts the values of every node at every state into their places.
-fn fill<K: Truth, L: Leaves<K>>(
-    nodes: &[Node],
-    stamps: &[u64],
-    leaves: &L,
-    pending: K,
-    values: &mut [K],
-)
-    requires within { length values.old ≡ length stamps.now * length nodes.now }
-    requires rises { rising stamps.now ≡ true }
-    requires ordered { Ordered nodes.now }
-    ensures { values.new ≡ all_values K.kind (record_of stamps.now (L.leaf leaves.now) pending) nodes.now }
-{
-    for m in 0..nodes.len() {
-        fill_node(nodes, m, stamps, leaves, pending, values);
+    /// Puts the value of node `m` at state `i` into its place, unless what is there stands.
+    /// `kept` is, for an until, its first operand at every state from `i` on.
+    fn settle(&self, values: &mut [K], m: usize, i: usize, kept: K)
+        requires within { Has self.now m i × Fits self.now values.old }
+        requires filled { Filled K.kind (record_in L.leaf self.now) self.now.nodes.now values.old m }
+        requires right { Right K.kind (record_in L.leaf self.now) self.now.nodes.now values.old (S.stays self.now.standing) }
+        requires keeps { kept ≡ kept_in K.kind self.now values.old m i }
+        ensures { values.new ≡ slice_set values.old (i * length self.now.nodes.now + m) (value K.kind (record_in L.leaf self.now) (formula_at self.now.nodes.now m) i) }
+    {
+        if self.standing.stands(i, self.value(values, m, i)) {
+            return;
+        }
+        let value = self.node_at(values, m, i, kept);
+        self.write(values, m, i, value);
+    }
+
+    /// Puts the values of node `m` at every state into their places, from the last state to the first, but for those
+    /// that stand.
+    // Stays: `i` is the place of a state, at which three columns are read and one value is written.
+    fn settle_node(&self, values: &mut [K], m: usize)
+        requires within { (m < length self.now.nodes.now) × Fits self.now values.old }
+        requires filled { Filled K.kind (record_in L.leaf self.now) self.now.nodes.now values.old m }
+        requires right { Right K.kind (record_in L.leaf self.now) self.now.nodes.now values.old (S.stays self.now.standing) }
+        ensures filled { Filled K.kind (record_in L.leaf self.now) self.now.nodes.now values.new (m + 1) }
+        ensures right { Right K.kind (record_in L.leaf self.now) self.now.nodes.now values.new (S.stays self.now.standing) }
+    {
+        let mut held = K::yes();
+        for i in (0..self.stamps.len()).rev() {
+            held = self.kept_at(values, m, i, held);
+            self.settle(values, m, i, held);
+        }
+    }
+
+    /// Puts the values of every node at every state into their places, but for those that stand.
+    /// Cost: a look at each value, and for each that does not stand the states of its window.
+    // Stays: `m` is the place of a node, which the values are written by, and not only the node.
+    pub fn settle_all(&self, values: &mut [K])
+        requires within { Fits self.now values.old }
+        requires right { Right K.kind (record_in L.leaf self.now) self.now.nodes.now values.old (S.stays self.now.standing) }
+        ensures { values.new ≡ all_values K.kind (record_in L.leaf self.now) self.now.nodes.now }
+    {
+        for m in 0..self.nodes.len() {
+            self.settle_node(values, m);
+        }
     }
 }
 
@@ -226,10 +172,7 @@ fn fill<K: Truth, L: Leaves<K>>(
 fn has_room(states: usize, nodes: usize, places: usize) -> bool
     ensures { result ≡ (states * nodes == places) }
 {
-    match states.checked_mul(nodes) {
-        Some(wanted) => wanted == places,
-        None => false,
-    }
+    states.checked_mul(nodes) == Some(places)
 }
 
 /// Puts the value of node m at state i to place i * nodes + m of `values`, for every node of the table at every state,
@@ -253,6 +196,13 @@ pub fn evaluate<K: Truth, L: Leaves<K>>(
     if !are_rising(stamps) {
         return Err(Misfit::Stamps);
     }
-    fill(nodes, stamps, leaves, pending, values);
+    let evaluation = Evaluation {
+        nodes,
+        stamps,
+        leaves,
+        pending,
+        standing: Anew,
+    };
+    evaluation.settle_all(values);
     Ok(())
 }

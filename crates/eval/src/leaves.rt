@@ -1,7 +1,7 @@
 //! Where the values of query nodes come from.
-ghost use Rattle.std.specs.Prelude.{◌≡◌, ℕ, length, slice_index};
+ghost use Rattle.std.specs.Prelude.{◌≡◌, ℕ, slice_index};
 ghost use Rattle.syntax.specs.Rows.{bit_of};
-ghost use Rattle.eval.specs.Rows.{truth_of, row_leaf};
+ghost use Rattle.eval.specs.Rows.{row_leaf};
 
 use truth::Truth;
 
@@ -36,12 +36,12 @@ impl<K: Truth> Leaves<K> for Rows<'_> {
 fn row_at(rows: &[u64], state: usize) -> u64
     ensures { result ≡ slice_index rows.now state }
 {
-    if state < rows.len() { rows[state] } else { 0 }
+    rows.get(state).copied().unwrap_or(0)
 }
 
 /// Whether bit `m` of a row is set, from the lowest.
 pub fn is_set(row: u64, m: usize) -> bool
     ensures { result ≡ bit_of row m }
 {
-    if m < 64 { (row >> m) % 2 == 1 } else { false }
+    m < 64 && (row >> m) % 2 == 1
 }

@@ -1,15 +1,14 @@
-//! The temporal operators at one state, from the columns of their operands.
+//! The temporal operators at one state, from what their operands are at every state.
 //!
 //! The cost is given in states looked at. A window of a state ends where its upper bound ends, so no operator looks past it.
-ghost use Rattle.std.specs.Prelude.{◌≡◌, ℕ, suc, ◌+◌, ◌-◌, ◌<◌, ◌≤◌, true, length, if◌then◌else◌, nat_le};
-ghost use Rattle.eval.specs.Columns.{at};
-ghost use Rattle.eval.specs.Stamps.{rising, timed};
-ghost use Rattle.eval.specs.Truth.{all, mark, sometime, always, until, next, allnext, previous, once, sofar, since};
+ghost use Rattle.std.specs.Prelude.{◌≡◌, ◌+◌, ◌-◌, ◌<◌, ◌≤◌, false, length, if◌then◌else◌, nat_le};
+ghost use Rattle.eval.specs.Outlooks.{seen, Covers};
+ghost use Rattle.eval.specs.Stamps.{span};
+ghost use Rattle.eval.specs.Truth.{all, below, mark, sometime, always, until, next, allnext, previous, once, sofar, since};
 
-use crate::column::Column;
-use crate::reading::{negation, read};
-use crate::windows::{contains, distance, future_end, is_past, past_start};
-use syntax::Window;
+use crate::operand::{Negated, Operand};
+use crate::outlook::Outlook;
+use crate::windows::{contains, is_beyond, is_past};
 use truth::Truth;
 
 /// The value where the test holds, else no.
@@ -19,186 +18,212 @@ fn only_if<K: Truth>(test: bool, value: K) -> K
     if test { value } else { K::no() }
 }
 
-/// The open mark of state `i`.
-fn open_mark<K: Truth>(stamps: &[u64], i: usize, w: Window, pending: K) -> K
-    requires { i < length stamps.now }
-    ensures { result ≡ mark K.kind (timed K.kind stamps.now pending) w i }
-{
-    if is_past(w, distance(stamps, i, stamps.len() - 1)) {
-        K::no()
-    } else {
-        pending
-    }
-}
-
-/// Whether the operand comes up in the future window, or may still come. Cost: the states up to the window's end.
-pub(crate) fn at_sometime<K: Truth>(
-    stamps: &[u64],
-    operand: &Column<'_, K>,
-    i: usize,
-    w: Window,
-    pending: K,
-) -> K
-    requires within { (i < length stamps.now) × (operand.now.states ≡ length stamps.now) }
-    requires rises { rising stamps.now ≡ true }
-    ensures { result ≡ sometime K.kind (timed K.kind stamps.now pending) w (at K.kind operand.now) i }
-{
-    let end = future_end(stamps, i, w);
-    let mut any = K::no();
-    for j in i..end {
-        let here = read(operand, j);
-        any = any.or(only_if(contains(w, distance(stamps, i, j)), here));
-    }
-    any.or(open_mark(stamps, i, w, pending))
-}
-
-/// The operand at every state of the future window. Cost: that of sometime.
-pub(crate) fn at_always<K: Truth>(
-    stamps: &[u64],
-    operand: &Column<'_, K>,
-    i: usize,
-    w: Window,
-    pending: K,
-) -> K
-    requires within { (i < length stamps.now) × (operand.now.states ≡ length stamps.now) }
-    requires rises { rising stamps.now ≡ true }
-    ensures { result ≡ always K.kind (timed K.kind stamps.now pending) w (at K.kind operand.now) i }
-{
-    at_sometime(stamps, &negation(operand), i, w, pending).not()
-}
-
 /// The second operand at state `j` where the first has held so far, and how the first holds with state `j`.
-fn turn<K: Truth>(first: &Column<'_, K>, second: &Column<'_, K>, held: K, j: usize) -> (K, K)
-    requires { (j < first.now.states) × (j < second.now.states) }
-    ensures here { result.0 ≡ K.kind.and (at K.kind second.now j) held }
-    ensures on { result.1 ≡ K.kind.and held (at K.kind first.now j) }
+fn turn<K: Truth, F: Operand<K>, G: Operand<K>>(first: &F, second: &G, held: K, j: usize) -> (K, K)
+    requires first { F.has first.now j }
+    requires second { G.has second.now j }
+    ensures here { result.0 ≡ K.kind.and (G.at second.now j) held }
+    ensures on { result.1 ≡ K.kind.and held (F.at first.now j) }
 {
-    let on = held.and(read(first, j));
-    (read(second, j).and(held), on)
+    let on = held.and(first.read(j));
+    (second.read(j).and(held), on)
 }
 
-/// The second operand at some state of the future window and the first at every state before it,
-/// or the first at every state from `i` on and the open mark.
-/// `kept` is the first operand at every state from `i` on. Cost: the states up to the window's end.
-pub(crate) fn at_until<K: Truth>(
-    stamps: &[u64],
-    first: &Column<'_, K>,
-    second: &Column<'_, K>,
-    kept: K,
-    i: usize,
-    w: Window,
-    pending: K,
-) -> K
-    requires within { (i < length stamps.now) × ((first.now.states ≡ length stamps.now) × (second.now.states ≡ length stamps.now)) }
-    requires rises { rising stamps.now ≡ true }
-    requires keeps { kept ≡ all K.kind (length stamps.now) (λ m. nat_le i m) (at K.kind first.now) }
-    ensures { result ≡ until K.kind (timed K.kind stamps.now pending) w (at K.kind first.now) (at K.kind second.now) i }
-{
-    let end = future_end(stamps, i, w);
-    let mut any = K::no();
-    let mut held = K::yes();
-    for j in i..end {
-        let (here, on) = turn(first, second, held, j);
-        any = any.or(only_if(contains(w, distance(stamps, i, j)), here));
-        held = on;
+// Stays: an operand comes with each call, which has to ask that it has a value wherever the outlook may look.
+impl Outlook<'_> {
+    /// The distance to state `j`, 0 if that comes first.
+    fn ahead(&self, j: usize) -> u64
+        requires { j < length self.now.stamps.now }
+        ensures { result ≡ span self.now.stamps.now self.now.state j }
+    {
+        self.stamps[j].saturating_sub(self.stamps[self.state])
     }
-    any.or(kept.and(open_mark(stamps, i, w, pending)))
-}
 
-/// The operand at the next state, if it lies in the window; at the last state the open mark. Cost: one state.
-pub(crate) fn at_next<K: Truth>(
-    stamps: &[u64],
-    operand: &Column<'_, K>,
-    i: usize,
-    w: Window,
-    pending: K,
-) -> K
-    requires within { (i < length stamps.now) × (operand.now.states ≡ length stamps.now) }
-    ensures { result ≡ next K.kind (timed K.kind stamps.now pending) w (at K.kind operand.now) i }
-{
-    let j = i + 1;
-    if j < stamps.len() {
-        only_if(contains(w, distance(stamps, i, j)), read(operand, j))
-    } else {
-        open_mark(stamps, i, w, pending)
+    /// The distance from state `j`, 0 if that comes later.
+    fn behind(&self, j: usize) -> u64
+        requires { j < length self.now.stamps.now }
+        ensures { result ≡ span self.now.stamps.now j self.now.state }
+    {
+        self.stamps[self.state].saturating_sub(self.stamps[j])
     }
-}
 
-/// The negation of next over the negated operand. Cost: that of next.
-pub(crate) fn at_allnext<K: Truth>(
-    stamps: &[u64],
-    operand: &Column<'_, K>,
-    i: usize,
-    w: Window,
-    pending: K,
-) -> K
-    requires within { (i < length stamps.now) × (operand.now.states ≡ length stamps.now) }
-    ensures { result ≡ allnext K.kind (timed K.kind stamps.now pending) w (at K.kind operand.now) i }
-{
-    at_next(stamps, &negation(operand), i, w, pending).not()
-}
-
-/// The operand at the previous state, if there is one in the window. Cost: one state.
-pub(crate) fn at_previous<K: Truth>(
-    stamps: &[u64],
-    operand: &Column<'_, K>,
-    i: usize,
-    w: Window,
-) -> K
-    requires within { (i < length stamps.now) × (operand.now.states ≡ length stamps.now) }
-    ensures { result ≡ previous K.kind (timed K.kind stamps.now K.kind.no) w (at K.kind operand.now) i }
-{
-    if 0 < i {
-        let j = i - 1;
-        only_if(contains(w, distance(stamps, j, i)), read(operand, j))
-    } else {
-        K::no()
+    /// The first state from this one on that lies beyond the window's upper bound, or the number of states.
+    /// Cost: the states up to it.
+    fn future_end(&self) -> usize
+        ensures from { self.now.state ≤ result }
+        ensures inside { result ≤ length self.now.stamps.now }
+        ensures beyond { result < length self.now.stamps.now → below self.now.window.high (span self.now.stamps.now self.now.state result) ≡ false }
+    {
+        let Outlook {
+            stamps,
+            state,
+            window,
+        } = *self;
+        let from = stamps[state];
+        stamps[state..]
+            .iter()
+            .position(|stamp| is_beyond(window, stamp.saturating_sub(from)))
+            .map_or(stamps.len(), |ahead| state + ahead)
     }
-}
 
-/// The second operand at some state of the past window and the first at every state after it. Cost: the states from the window's start.
-pub(crate) fn at_since<K: Truth>(
-    stamps: &[u64],
-    first: &Column<'_, K>,
-    second: &Column<'_, K>,
-    i: usize,
-    w: Window,
-) -> K
-    requires within { (i < length stamps.now) × ((first.now.states ≡ length stamps.now) × (second.now.states ≡ length stamps.now)) }
-    requires rises { rising stamps.now ≡ true }
-    ensures { result ≡ since K.kind (timed K.kind stamps.now K.kind.no) w (at K.kind first.now) (at K.kind second.now) i }
-{
-    let start = past_start(stamps, i, w);
-    let mut any = K::no();
-    let mut held = K::yes();
-    for j in (start..i + 1).rev() {
-        let (here, on) = turn(first, second, held, j);
-        any = only_if(contains(w, distance(stamps, j, i)), here).or(any);
-        held = on;
+    /// The first state after those that lie before the window's upper bound in the past. Cost: the states from it on.
+    fn past_start(&self) -> usize
+        ensures inside { result ≤ self.now.state + 1 }
+        ensures beyond { 0 < result → below self.now.window.high (span self.now.stamps.now (result - 1) self.now.state) ≡ false }
+    {
+        let Outlook {
+            stamps,
+            state,
+            window,
+        } = *self;
+        let to = stamps[state];
+        stamps[..=state]
+            .iter()
+            .rposition(|stamp| is_beyond(window, to.saturating_sub(*stamp)))
+            .map_or(0, |last| last + 1)
     }
-    any
-}
 
-/// The operand at some state of the past window. Cost: the states from the window's start.
-pub(crate) fn at_once<K: Truth>(stamps: &[u64], operand: &Column<'_, K>, i: usize, w: Window) -> K
-    requires within { (i < length stamps.now) × (operand.now.states ≡ length stamps.now) }
-    requires rises { rising stamps.now ≡ true }
-    ensures { result ≡ once K.kind (timed K.kind stamps.now K.kind.no) w (at K.kind operand.now) i }
-{
-    let start = past_start(stamps, i, w);
-    let mut any = K::no();
-    for j in (start..i + 1).rev() {
-        let here = read(operand, j);
-        any = only_if(contains(w, distance(stamps, j, i)), here).or(any);
+    /// The open mark.
+    fn open_mark<K: Truth>(&self, pending: K) -> K
+        ensures { result ≡ mark K.kind (seen K.kind self.now pending) self.now.window self.now.state }
+    {
+        if is_past(self.window, self.ahead(self.stamps.len() - 1)) {
+            K::no()
+        } else {
+            pending
+        }
     }
-    any
-}
 
-/// The operand at every state of the past window. Cost: that of once.
-pub(crate) fn at_sofar<K: Truth>(stamps: &[u64], operand: &Column<'_, K>, i: usize, w: Window) -> K
-    requires within { (i < length stamps.now) × (operand.now.states ≡ length stamps.now) }
-    requires rises { rising stamps.now ≡ true }
-    ensures { result ≡ sofar K.kind (timed K.kind stamps.now K.kind.no) w (at K.kind operand.now) i }
-{
-    at_once(stamps, &negation(operand), i, w).not()
+    /// The second operand at some state of the future window and the first at every state before it,
+    /// or the first at every state from this one on and the open mark.
+    /// `kept` is the first operand at every state from this one on. Cost: the states up to the window's end.
+    pub fn until<K: Truth, F: Operand<K>, G: Operand<K>>(
+        &self,
+        first: &F,
+        second: &G,
+        kept: K,
+        pending: K,
+    ) -> K
+        requires first { Covers self.now (F.has first.now) }
+        requires second { Covers self.now (G.has second.now) }
+        requires keeps { kept ≡ all K.kind (length self.now.stamps.now) (λ m. nat_le self.now.state m) (F.at first.now) }
+        ensures { result ≡ until K.kind (seen K.kind self.now pending) self.now.window (F.at first.now) (G.at second.now) self.now.state }
+    {
+        let end = self.future_end();
+        let mut any = K::no();
+        let mut held = K::yes();
+        // Stays: a fold would carry the same two values in a pair, and its closure a contract longer than the loop.
+        for j in self.state..end {
+            let (here, on) = turn(first, second, held, j);
+            any = any.or(only_if(contains(self.window, self.ahead(j)), here));
+            held = on;
+        }
+        any.or(kept.and(self.open_mark(pending)))
+    }
+
+    /// The second operand at some state of the past window and the first at every state after it.
+    /// Cost: the states from the window's start.
+    // Stays: it goes back, joins from the left and has no open mark, so one text for this and `until` would take the
+    // places, the test and the join as parameters.
+    pub fn since<K: Truth, F: Operand<K>, G: Operand<K>>(&self, first: &F, second: &G) -> K
+        requires first { Covers self.now (F.has first.now) }
+        requires second { Covers self.now (G.has second.now) }
+        ensures { result ≡ since K.kind (seen K.kind self.now K.kind.no) self.now.window (F.at first.now) (G.at second.now) self.now.state }
+    {
+        let start = self.past_start();
+        let mut any = K::no();
+        let mut held = K::yes();
+        // Stays: a fold would carry the same two values in a pair, and its closure ask for the state and both operands.
+        for j in (start..self.state + 1).rev() {
+            let (here, on) = turn(first, second, held, j);
+            any = only_if(contains(self.window, self.behind(j)), here).or(any);
+            held = on;
+        }
+        any
+    }
+
+    /// Whether the operand comes up in the future window, or may still come. Cost: the states up to the window's end.
+    pub fn sometime<K: Truth, O: Operand<K>>(&self, operand: &O, pending: K) -> K
+        requires { Covers self.now (O.has operand.now) }
+        ensures { result ≡ sometime K.kind (seen K.kind self.now pending) self.now.window (O.at operand.now) self.now.state }
+    {
+        // Stays: as an until over yes the plain truth took 1.1 times as long as with a loop here, at windows without bound.
+        let end = self.future_end();
+        let any = (self.state..end).fold(
+            K::no(),
+            |any: K, j: usize| -> K
+                requires inside { j < length self.now.stamps.now }
+                requires has { O.has operand.now j }
+            { any.or(only_if(contains(self.window, self.ahead(j)), operand.read(j))) },
+        );
+        any.or(self.open_mark(pending))
+    }
+
+    /// The operand at every state of the future window. Cost: that of sometime.
+    // Stays: always, sofar and allnext are a line each, since a generic one would take the operator as a closure.
+    pub fn always<K: Truth, O: Operand<K>>(&self, operand: &O, pending: K) -> K
+        requires { Covers self.now (O.has operand.now) }
+        ensures { result ≡ always K.kind (seen K.kind self.now pending) self.now.window (O.at operand.now) self.now.state }
+    {
+        self.sometime(&Negated { of: operand }, pending).not()
+    }
+
+    /// The operand at some state of the past window. Cost: the states from the window's start.
+    pub fn once<K: Truth, O: Operand<K>>(&self, operand: &O) -> K
+        requires { Covers self.now (O.has operand.now) }
+        ensures { result ≡ once K.kind (seen K.kind self.now K.kind.no) self.now.window (O.at operand.now) self.now.state }
+    {
+        // Stays: apart from `since`, which over yes would read yes at each state and carry that it held.
+        let start = self.past_start();
+        (start..self.state + 1).fold(
+            K::no(),
+            |any: K, j: usize| -> K
+                requires inside { j < length self.now.stamps.now }
+                requires has { O.has operand.now j }
+            { any.or(only_if(contains(self.window, self.behind(j)), operand.read(j))) },
+        )
+    }
+
+    /// The operand at every state of the past window. Cost: that of once.
+    pub fn sofar<K: Truth, O: Operand<K>>(&self, operand: &O) -> K
+        requires { Covers self.now (O.has operand.now) }
+        ensures { result ≡ sofar K.kind (seen K.kind self.now K.kind.no) self.now.window (O.at operand.now) self.now.state }
+    {
+        self.once(&Negated { of: operand }).not()
+    }
+
+    /// The operand at the next state, if it lies in the window; at the last state the open mark. Cost: one state.
+    pub fn next<K: Truth, O: Operand<K>>(&self, operand: &O, pending: K) -> K
+        requires { Covers self.now (O.has operand.now) }
+        ensures { result ≡ next K.kind (seen K.kind self.now pending) self.now.window (O.at operand.now) self.now.state }
+    {
+        let j = self.state + 1;
+        if j < self.stamps.len() {
+            only_if(contains(self.window, self.ahead(j)), operand.read(j))
+        } else {
+            self.open_mark(pending)
+        }
+    }
+
+    /// The negation of next over the negated operand. Cost: that of next.
+    // Stays: one line; a generic one for it and always would take the operator as a closure.
+    pub fn allnext<K: Truth, O: Operand<K>>(&self, operand: &O, pending: K) -> K
+        requires { Covers self.now (O.has operand.now) }
+        ensures { result ≡ allnext K.kind (seen K.kind self.now pending) self.now.window (O.at operand.now) self.now.state }
+    {
+        self.next(&Negated { of: operand }, pending).not()
+    }
+
+    /// The operand at the previous state, if there is one in the window. Cost: one state.
+    pub fn previous<K: Truth, O: Operand<K>>(&self, operand: &O) -> K
+        requires { Covers self.now (O.has operand.now) }
+        ensures { result ≡ previous K.kind (seen K.kind self.now K.kind.no) self.now.window (O.at operand.now) self.now.state }
+    {
+        if 0 < self.state {
+            let j = self.state - 1;
+            only_if(contains(self.window, self.behind(j)), operand.read(j))
+        } else {
+            K::no()
+        }
+    }
 }

@@ -5,6 +5,7 @@ use std::alloc::{AllocError, Global};
 use truth::Three;
 
 /// Room for 512 states with the values of 64 nodes at each.
+// Stays: stamps and rows are two vectors: a record takes both as they are, and the evaluator takes stamps as a slice.
 #[derive(Drop)]
 pub struct RecordRoom {
     pub(crate) stamps: Vec<u64>,

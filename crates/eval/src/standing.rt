@@ -43,8 +43,5 @@ impl Standing<Three> for Decided {
 fn is_decided(value: Three) -> bool
     ensures { result ≡ decided value }
 {
-    match value {
-        Three::True | Three::False => true,
-        Three::Undecided => false,
-    }
+    matches!(value, Three::True | Three::False)
 }

@@ -1,5 +1,6 @@
-use Rattle.std.proofs.Common.{◌≡◌, ℕ, ◌/◌, ◌%◌, ◌^◌, ◌<◌, ◌≤◌, false, eqb, sym, ap, arith, pow_mono}
+use Rattle.std.proofs.Common.{◌≡◌, ℕ, ◌/◌, ◌%◌, ◌^◌, ◌<◌, ◌≤◌, false, eqb, sym, ap, ◌∙◌, arith, pow_mono}
 use native.Mathlib.Nat.{div-eq_of_lt}
+use Rattle.std.proofs.lemmas.Bool.{le-ltb}
 use Rattle.syntax.specs.Rows.{bit_of}
 use Rattle.eval.proofs.leaves.is_set.Goals as goal
 
@@ -11,4 +12,4 @@ past_row row m small le =
     sym (ap (λ q. eqb (q % 2) 1) none)
 
 pub returns-else-m-lt64 : goal.returns-else-m-lt64
-returns-else-m-lt64 c = past_row c.args.row c.args.m (omega arith) c.if-m-lt64.false
+returns-else-m-lt64 c = le-ltb c.args.m 64 c.if-m-lt64.false ∙ past_row c.args.row c.args.m (omega arith) c.if-m-lt64.false

@@ -1,25 +1,36 @@
-use Rattle.std.proofs.Common.{◌≡◌, ◌≤◌, true, length, vec_items, refl, ap, ◌∙◌, arith, length-append, rules}
-use Rattle.rules.specs.Tables.{nodes_of}
+use Rattle.std.proofs.Common.{◌≡◌, ◌+◌, true, is_ok, length, vec_items, refl, ap, ◌∙◌, arith, length-append, rules}
+use Rattle.std.proofs.lemmas.Bool.{cond-true}
 use Rattle.eval.specs.Stamps.{rising}
 use Rattle.eval.proofs.Records.{how_many, more_room, one_more, rising_more, take_right}
 use Rattle.eval.proofs.evaluated.EvaluatedRecord.take.Goals as goal
 
-pub widen-requires : goal.widen-requires
-widen-requires c =
+pub overflow_add-places : goal.overflow_add-places
+overflow_add-places c =
     let s = c.args.self.now in
-    let w : length c.nodes.result.now ≡ length (nodes_of s.table.now) = ap length c.nodes.ensures.value in
-    let few : length (nodes_of s.table.now) ≤ 64 = c.nodes.ensures.few in
-    let more = more_room (length (vec_items s.stamps)) _ _ c.requires.few few (how_many s) in
-    (omega arith, omega arith)
+    let more = more_room (length (vec_items s.stamps)) _ _ c.requires.few c.nodes.ensures.few (how_many s) in
+    omega (arith, ap length c.nodes.ensures.value)
+
+pub unwrap-requires : goal.unwrap-requires
+unwrap-requires c =
+    let s = c.args.self.now in
+    let more = more_room (length (vec_items s.stamps)) _ _ c.requires.few c.nodes.ensures.few (how_many s) in
+    let wide = s.for_values in
+    let ok : is_ok c.resize.result ≡ true = c.resize.ensures.succeeds (omega (arith, ap length c.nodes.ensures.value)) in
+    search rules
 
 pub evaluate_rest-requires : goal.evaluate_rest-requires
 evaluate_rest-requires c =
     let s = c.args.self.now in
+    let more = more_room (length (vec_items s.stamps)) _ _ c.requires.few c.nodes.ensures.few (how_many s) in
+    let wide = s.for_values in
     let same = c.as_slice.ensures.value ∙ c.push_reserved.ensures.items in
     record {
       risen = ap rising same ∙ rising_more (vec_items s.stamps) c.args.stamp s.risen c.requires.later;
-      full = one_more _ _ _ _ _ (how_many s) (ap length same ∙ length-append (vec_items s.stamps) _) (ap length c.nodes.ensures.value) c.widen.ensures.len;
-      right = take_right s c.args.stamp c.args.row _ _ _ _ c.requires.later same (c.as_slice-2.ensures.value ∙ c.push_reserved-2.ensures.items) c.widen.ensures.old s.finished refl c.standing-standing.ensures;
+      full = one_more _ _ _ _ _ (how_many s) (ap length same ∙ length-append (vec_items s.stamps) _) (ap length c.nodes.ensures.value)
+          (c.resize.ensures.len ∙ cond-true _ _ _ (c.resize.ensures.succeeds (omega (arith, ap length c.nodes.ensures.value))) ∙ ap (λ n. n + length c.nodes.result.now) c.len.ensures);
+      right = rw c.pending-pending.ensures
+          (take_right s c.args.stamp c.args.row _ _ _ _ c.requires.later same (c.as_slice-2.ensures.value ∙ c.push_reserved-2.ensures.items)
+          (λ k d l. c.resize.ensures.by_index.0 k d (omega arith) l) s.finished refl c.standing-standing.ensures);
     }
 
 pub invariant_of-self : goal.invariant_of-self
