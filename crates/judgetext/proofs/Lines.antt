@@ -1,5 +1,5 @@
 -- Lines of verdicts, added one after another.
-use Rattle.std.proofs.Common.{◌≡◌, ℕ, zero, suc, ◌+◌, ◌<◌, ◌≤◌, true, eqb, List, [], ◌∷◌, ◌++◌, length, get_or, drop, is_some, sym, refl, ap, ◌∙◌, ap₂, ⊎_elim, append_assoc, append-nil, arith}
+use Rattle.std.proofs.Common.{◌≡◌, ℕ, zero, suc, ◌+◌, ◌<◌, ◌≤◌, true, eqb, List, [], ◌∷◌, ◌++◌, length, get_or, drop, is_some, Ok, Result, sym, refl, ap, subst, ◌∙◌, ap₂, ⊎_elim, append_assoc, append-nil, arith}
 use Rattle.std.proofs.lemmas.List.{at_drop_more, at_drop_all}
 use Rattle.std.proofs.lemmas.Bool.{cond-true, cond-false, eq-eqb, cases_Bool}
 use Rattle.syntax.specs.declared.Rule.{Rule}
@@ -7,6 +7,9 @@ use Rattle.syntax.specs.Nodes.{root_of}
 use Rattle.rules.specs.declared.table.Table.{Table}
 use Rattle.rules.specs.Tables.{rules_of}
 use Rattle.judging.specs.Answers.{plain_truth}
+use Rattle.judging.specs.Judged.{case_of, case_answer}
+use Rattle.judging.specs.declared.judged.Judged.{Judged}
+use Rattle.judging.proofs.Truths.{answered_plainly}
 use Rattle.recordtext.specs.Texts.{verdict_line}
 use Rattle.judgetext.specs.Outputs.{lines_at, lines_upto}
 
@@ -19,6 +22,15 @@ known (r ∷ rs) (suc i) d lt =
     (λ e. ap is_some (cond-true _ _ _ e))
     (λ e. ap is_some (cond-false _ _ _ e) ∙ known rs i d (omega arith))
     (cases_Bool (eqb r.number (get_or rs i d).number))
+
+pub same_Ok : {X Y : Type 0} (x y : X) → ◌≡◌ {A = Result X Y} (Ok x) (Ok y) → x ≡ y
+same_Ok x y e = cc
+
+-- so the judge knows the plain truth of each rule at each state of its record
+pub truth_known : (j : Judged) (rules : List Rule) (i state : ℕ) (d : Rule) → rules ≡ rules_of j.table.now → i < length rules → state < length j.record.stamps.now
+    → case_answer (case_of j) (get_or rules i d).number state ≡ Ok (plain_truth j.table.now j.record.stamps.now j.record.rows.now (get_or rules i d).number state)
+truth_known j rules i state d same lt here =
+    answered_plainly j _ state (subst (λ rs. is_some (root_of (get_or rules i d).number rs) ≡ true) same (known rules i d lt)) here
 
 module _ (table : Table) (stamps rows : List ℕ) (state : ℕ) (rules : List Rule) (start : List ℕ) where
   -- what is written, and what is still to write

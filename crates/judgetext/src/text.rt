@@ -1,10 +1,7 @@
 //! What the judge writes for a rule file and a record.
-ghost use Rattle.std.specs.Prelude.{◌≡◌, ℕ, ◌<◌, true, cond, ◌⊎◌, ◌++◌, length, is_some, is_ok, IfOk, string_bytes};
-ghost use Rattle.syntax.specs.Nodes.{root_of};
-ghost use Rattle.rules.specs.Tables.{rules_of};
-ghost use Rattle.judging.specs.Answers.{plain_truth};
+ghost use Rattle.std.specs.Prelude.{◌≡◌, ◌⊎◌, length, IfOk, string_bytes};
 ghost use Rattle.judging.specs.Judged.{case_of};
-ghost use Rattle.judgetext.specs.Outputs.{lines_at, lines_upto, verdicts, Recorded, Misformed, Output};
+ghost use Rattle.judgetext.specs.Outputs.{lines_upto, verdicts, Recorded, Misformed, Output};
 
 use judging::judged::Judged;
 use judging::workspace::Workspace;
@@ -13,67 +10,33 @@ use recordtext::reading::read;
 use recordtext::state::ReadError;
 use rules::table::Table;
 use std::alloc::{AllocError, Global};
-use syntax::Rule;
-
-/// The truth of a rule of the table at a state of the record.
-fn truth_at(judged: &Judged<'_>, rule: u8, state: usize) -> bool
-    requires { (is_some (root_of rule (rules_of (case_of judged.now).table)) ≡ true) × (state < length (case_of judged.now).stamps) }
-    ensures { result ≡ plain_truth (case_of judged.now).table (case_of judged.now).stamps (case_of judged.now).rows rule state }
-{
-    match judged.truth(rule, state) {
-        Ok(truth) => truth,
-        Err(_) => unreachable(),
-    }
-}
-
-/// Adds a line for each rule at a state.
-fn push_state(
-    heap: Global,
-    judged: &Judged<'_>,
-    rules: &[Rule],
-    state: usize,
-    out: &mut String,
-) -> Result<(), AllocError>
-    requires { (rules.now ≡ rules_of (case_of judged.now).table) × (state < length (case_of judged.now).stamps) }
-    ensures { is_ok result ≡ true → string_bytes out.new ≡ string_bytes out.old ++ lines_at (case_of judged.now).table (case_of judged.now).stamps (case_of judged.now).rows state rules.now }
-{
-    for rule in rules {
-        let truth = truth_at(judged, rule.number, state);
-        let line = lines::verdict(heap, rule.number, state, truth)?;
-        out.push_str(line.as_str())?;
-    }
-    Ok(())
-}
 
 /// A line for each state and then each rule.
-fn all_lines(
-    heap: Global,
-    judged: &Judged<'_>,
-    rules: &[Rule],
-    states: usize,
-) -> Result<String, AllocError>
-    requires { (rules.now ≡ rules_of (case_of judged.now).table) × (states ≡ length (case_of judged.now).stamps) }
-    ensures { IfOk result (λ s. string_bytes s ≡ lines_upto (case_of judged.now).table (case_of judged.now).stamps (case_of judged.now).rows states) }
+fn all_lines(heap: Global, judged: &Judged<'_>) -> Result<String, AllocError>
+    ensures { let c = case_of judged.now in IfOk result (λ s. string_bytes s ≡ lines_upto c.table c.stamps c.rows (length c.stamps)) }
 {
     let mut out = String::new(heap);
-    for state in 0..states {
-        push_state(heap, judged, rules, state, &mut out)?;
+    for state in 0..judged.states() {
+        for rule in judged.rules() {
+            let truth = judged.truth(rule.number, state).unwrap();
+            let line = lines::verdict(heap, rule.number, state, truth)?;
+            out.push_str(line.as_str())?;
+        }
     }
     Ok(out)
 }
 
 /// The verdicts on a record, or its refusal.
-fn judged_text<'a>(
+fn judged_text(
     heap: Global,
-    table: &'a Table,
-    stamps: &'a [u64],
-    rows: &'a [u64],
+    table: &Table,
+    stamps: &[u64],
+    rows: &[u64],
 ) -> Result<String, AllocError>
     ensures { IfOk result (λ s. string_bytes s ≡ verdicts table.now stamps.now rows.now) }
 {
-    let workspace = Workspace::new(heap)?;
-    match workspace.judge(table, stamps, rows) {
-        Ok(judged) => all_lines(heap, &judged, table.rules(), stamps.len()),
+    match Workspace::new(heap)?.judge(table, stamps, rows) {
+        Ok(judged) => all_lines(heap, &judged),
         Err(refusal) => lines::refused(heap, refusal.fault.number()),
     }
 }
@@ -90,7 +53,7 @@ fn record_text(heap: Global, table: &Table, text: &[u8]) -> Result<String, Alloc
             states.rows.as_slice(),
         ),
         Err(ReadError::BadLine(line)) => lines::bad(heap, line),
-        Err(ReadError::NoMemory) => Err(AllocError),
+        Err(ReadError::NoMemory(error)) => Err(error),
     }
 }
 
@@ -99,8 +62,7 @@ fn record_text(heap: Global, table: &Table, text: &[u8]) -> Result<String, Alloc
 pub fn output(heap: Global, rules: &[u8], text: &[u8]) -> Result<String, AllocError>
     ensures { IfOk result (λ s. Output rules.now text.now (string_bytes s)) }
 {
-    let table = Table::new(heap)?;
-    match table.read(rules) {
+    match Table::new(heap)?.read(rules) {
         Ok(table) => record_text(heap, &table, text),
         Err(fault) => lines::fault(
             heap,

@@ -1,5 +1,6 @@
 -- What the judge answers.
-use Rattle.std.specs.Prelude.{ℕ, Bool, true, false, cond, ◌&&◌, List, [], ◌∷◌, ◌++◌, length, is_some, Ok, Err, Result, ◌==◌, nat_le, nat_lt}
+use Rattle.std.specs.Prelude.{ℕ, Bool, false, cond, ◌&&◌, List, [], ◌∷◌, ◌++◌, length, is_some, Ok, Err, Result, ◌==◌, nat_le, nat_lt}
+use Rattle.std.specs.List.{list_all}
 use Rattle.std.specs.Option.{unwrap_or}
 use Rattle.truth.specs.Kleene.{plain}
 use Rattle.syntax.specs.Formula.{Formula}
@@ -14,8 +15,7 @@ use Rattle.eval.specs.Truth.{value}
 
 -- no stamp is above the limit
 abbrev pub none_above : ℕ → List ℕ → Bool
-none_above limit [] = true
-none_above limit (t ∷ ts) = nat_le t limit && none_above limit ts
+none_above limit = list_all (λ t. nat_le t limit)
 
 -- as many rows as stamps, and at most 512
 abbrev pub paired : List ℕ → List ℕ → Bool

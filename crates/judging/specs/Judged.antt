@@ -16,7 +16,7 @@ abbrev pub case_from : Table → List ℕ → List ℕ → Case
 case_from table stamps rows = record { table = table; stamps = stamps; rows = rows }
 
 abbrev pub case_of : Judged → Case
-case_of j = case_from j.table.now j.stamps.now j.rows.now
+case_of j = case_from j.table.now j.record.stamps.now j.record.rows.now
 
 abbrev pub case_answer : Case → ℕ → ℕ → Result Bool JudgeFault
 case_answer c rule state = judge_answer c.table c.stamps c.rows rule state

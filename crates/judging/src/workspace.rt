@@ -15,7 +15,7 @@ impl Workspace {
     pub fn new(heap: Global) -> Result<Workspace, AllocError>
         ensures { IfOk result (λ w. w.values.items ≡ []) }
     {
-        let values = Vec::with_capacity(heap, 32768)?;
+        let values = Vec::with_capacity(heap, 32_768)?;
         Ok(Workspace { values })
     }
 }

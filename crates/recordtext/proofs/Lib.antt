@@ -1,3 +1,2 @@
-pub mod Finding
+pub mod StateLines
 pub mod Spelling
-pub mod States

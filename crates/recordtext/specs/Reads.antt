@@ -36,5 +36,5 @@ Front text (Some l) = (take l.length text ≡ state_line l.state.stamp l.state.r
 -- a record whose text this is, or the first line outside the form; or no memory
 abbrev pub Reads : List ℕ → Result RecordText ReadError → Type 0
 Reads text (Ok r) = (length (vec_items r.stamps) ≡ length (vec_items r.rows)) × (Small (vec_items r.stamps) × Small (vec_items r.rows)) × (text ≡ record_text (vec_items r.stamps) (vec_items r.rows))
-Reads text (Err NoMemory) = Unit {0}
+Reads text (Err (NoMemory e)) = Unit {0}
 Reads text (Err (BadLine n)) = Bad text n

@@ -8,11 +8,8 @@ use std::alloc::{AllocError, Global};
 pub fn verdict(heap: Global, rule: u8, state: usize, truth: bool) -> Result<String, AllocError>
     ensures { IfOk result (λ s. string_bytes s ≡ verdict_line rule state truth) }
 {
-    if truth {
-        format!(in heap; "(verdict {rule} {state} T)\n")
-    } else {
-        format!(in heap; "(verdict {rule} {state} F)\n")
-    }
+    let letter = if truth { "T" } else { "F" };
+    format!(in heap; "(verdict {rule} {state} {letter})\n")
 }
 
 /// The first fault of a rule file: its number, its line and its byte in that line.

@@ -1,17 +1,25 @@
-use Rattle.std.proofs.Common.{string_bytes, ap, ◌∙◌}
-use Rattle.judging.specs.Judged.{case_of}
+use Rattle.std.proofs.Common.{length, ap, ◌∙◌}
+use Rattle.std.proofs.lemmas.Result.{IfOk-weaker}
+use Rattle.judging.specs.Answers.{record_refusals}
+use Rattle.judging.specs.Judged.{Case, case_from, case_of}
 use Rattle.recordtext.specs.Texts.{refused_line}
-use Rattle.judgetext.proofs.Answering.{made_so, verdicts_judged, verdicts_refused}
+use Rattle.judgetext.specs.Outputs.{lines_upto}
+use Rattle.judgetext.proofs.Answering.{told_lines, told_refusal}
 use Rattle.judgetext.proofs.text.judged_text.Goals as goal
 
 pub returns-in-Ok : goal.returns-in-Ok
 returns-in-Ok c =
-    made_so c.all_lines.result _ _
-    (λ s h. verdicts_judged c.args.table.now c.args.stamps.now c.args.rows.now (case_of c.in-Ok.judged) (string_bytes s) c.in-Ok.ensures.answer h)
+    let stamps = c.args.stamps.now in
+    let rows = c.args.rows.now in
+    let lines = λ (x : Case). lines_upto x.table x.stamps x.rows (length x.stamps) in
+    IfOk-weaker c.all_lines.result _ _
+    (λ s h. h ∙ told_lines (record_refusals stamps rows) (case_from c.args.table.now stamps rows) (case_of c.in-Ok.judged) lines c.in-Ok.ensures.answer)
     c.all_lines.ensures
 
 pub returns-in-Err : goal.returns-in-Err
 returns-in-Err c =
-    made_so c.refused.result _ _
-    (λ s h. verdicts_refused c.args.table.now c.args.stamps.now c.args.rows.now c.in-Err.refusal.fault (string_bytes s) c.in-Err.ensures.answer (h ∙ ap refused_line c.number.ensures))
+    let stamps = c.args.stamps.now in
+    let rows = c.args.rows.now in
+    IfOk-weaker c.refused.result _ _
+    (λ s h. h ∙ ap refused_line c.number.ensures ∙ told_refusal (record_refusals stamps rows) (case_from c.args.table.now stamps rows) c.in-Err.refusal.fault _ c.in-Err.ensures.answer)
     c.refused.ensures

@@ -1,13 +1,13 @@
 use Rattle.std.proofs.Common.{vec_items, ◌∙◌, ap₂, inl}
 use Rattle.judgetext.specs.Outputs.{verdicts}
-use Rattle.judgetext.proofs.Answering.{made_so}
+use Rattle.std.proofs.lemmas.Result.{IfOk-weaker}
 use Rattle.judgetext.proofs.text.record_text.Goals as goal
 
 pub returns-in-Ok : goal.returns-in-Ok
 returns-in-Ok c =
     let r = c.in-Ok.states in
     let read = c.in-Ok.ensures in
-    made_so c.judged_text.result _ _
+    IfOk-weaker c.judged_text.result _ _
     (λ s h.
     inl (record {
       stamps = vec_items r.stamps;

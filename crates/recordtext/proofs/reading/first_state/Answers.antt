@@ -1,23 +1,16 @@
-use Rattle.std.proofs.Common.{◌<◌, length, arith}
-use Rattle.recordtext.proofs.States.{newline_at, newline_within, body_at, line_from}
+use Rattle.std.proofs.Common.{◌∙◌, arith}
+use Rattle.std.proofs.lemmas.Option.{none-some}
+use Rattle.recordtext.proofs.StateLines.{newline_at, body_before_newline, line_at}
 use Rattle.recordtext.proofs.reading.first_state.Goals as goal
 
-pub returns-then-end-text : goal.returns-then-end-text
-returns-then-end-text c t w tail ts ws is =
-    let e = newline_at c.args.text.now t w tail ts ws is c.find-end.result c.find-end.ensures.within c.find-end.ensures.before c.find-end.ensures.found in
-    omega (arith, newline_within c.args.text.now t w tail ts ws is)
+pub returns-in_err-end : goal.returns-in_err-end
+returns-in_err-end c = rw c.from_residual.ensures (λ t w tail ts ws is. none-some _ (c.in_err-end.ensures ∙ newline_at t w ts ws c.args.text.now tail is))
 
-pub returns-in-Some : goal.returns-in-Some
-returns-in-Some c =
-    let here : c.find-end.result < length c.args.text.now = omega (arith, c.find-end.ensures.within, c.if-end-text.false) in
-    let body = c.in-Some.ensures in (
-      line_from c.args.text.now c.find-end.result c.in-Some.state.stamp c.in-Some.state.row here (c.find-end.ensures.found here) body.0,
-      omega arith,
-      omega arith,
-      body.1,
-    )
+pub returns-in_err-state : goal.returns-in_err-state
+returns-in_err-state c =
+    rw c.from_residual-in_err-state.ensures (λ t w tail ts ws is. c.in_err-state.ensures t w ts ws (body_before_newline t w ts ws c.args.text.now tail c.in_ok-end.end is c.in_ok-end.ensures))
 
-pub returns-in-None : goal.returns-in-None
-returns-in-None c t w tail ts ws is =
-    let e = newline_at c.args.text.now t w tail ts ws is c.find-end.result c.find-end.ensures.within c.find-end.ensures.before c.find-end.ensures.found in
-    c.in-None.ensures t w ts ws (body_at c.args.text.now t w tail ts ws is c.find-end.result e)
+pub returns : goal.returns
+returns c =
+    let line = line_at c.args.text.now c.in_ok-end.end c.in_ok-state.state.stamp c.in_ok-state.state.row c.in_ok-end.ensures c.in_ok-state.ensures.0 in
+    (line.0, omega arith, line.1, c.in_ok-state.ensures.1)

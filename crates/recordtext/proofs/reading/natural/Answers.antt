@@ -1,35 +1,34 @@
-use Rattle.std.proofs.Common.{◌≡◌, ◌<◌, length, get_or, sym, ◌∙◌, subst, arith}
-use Rattle.std.specs.Str.Parse.{ParsesUnsigned}
-use Rattle.std.proofs.lemmas.Bool.{eqb-true, eqb-false}
-use Rattle.recordtext.specs.Reads.{Spelt}
-use Rattle.recordtext.proofs.Spelling.{decimal_some_text, decimal_no_plus, decimal_no_zero, decimal_utf8, parsed}
+use Rattle.std.proofs.Common.{◌≡◌, ◌≤◌, length, get_or, subst, ◌∙◌, arith}
+use Rattle.std.proofs.lemmas.List.{get_or_past}
+use borrow.Author.Tests.{ltb-true}
+use Rattle.recordtext.proofs.Spelling.{decimal_no_plus, decimal_no_zero, parsed}
 use Rattle.recordtext.proofs.reading.natural.Goals as goal
-use Rattle.recordtext.proofs.reading.natural.Goals.{else-digits-eq48-via-then-digits-eq48+else-digits-gt1, else-digits-eq48-via-else-digits-eq48}
+use Rattle.recordtext.proofs.reading.natural.Goals.{in_default-via-then-as_bytes-lt1, in_default-via-else-as_bytes-lt1+then-this-lt2+in_default-1, in_default-via-else-as_bytes-lt1+else-this-lt2+in_default-1}
 
-pub returns-then-is_empty : goal.returns-then-is_empty
-returns-then-is_empty c n small is =
-    let none : length c.args.digits.now ≡ 0 = eqb-true _ 0 (sym c.is_empty.ensures ∙ c.if-is_empty.true) in
-    omega (arith, decimal_some_text n _ small is)
+pub returns-in-43 : goal.returns-in-43
+returns-in-43 c n small is = decimal_no_plus n _ small (c.as_bytes.ensures.value ∙ is) (omega arith)
 
-pub returns-then-digits-eq43 : goal.returns-then-digits-eq43
-returns-then-digits-eq43 c n small is = decimal_no_plus n _ small is c.if-digits-eq43.true
+pub returns-in-43-2 : goal.returns-in-43-2
+returns-in-43-2 c n small is = decimal_no_plus n _ small (c.as_bytes.ensures.value ∙ is) (omega arith)
 
-pub returns-then-digits-gt1 : goal.returns-then-digits-gt1
-returns-then-digits-gt1 c n small is = decimal_no_zero n _ small is c.if-digits-eq48.true c.if-digits-gt1.true
+pub returns-in-43-3 : goal.returns-in-43-3
+returns-in-43-3 c n small is = decimal_no_zero n _ small (c.as_bytes.ensures.value ∙ is) (omega arith) (omega arith)
 
-pub returns-in-Ok : goal.returns-in-Ok
-returns-in-Ok c =
-    let ds = c.args.digits.now in
-    let empty = eqb-false (length ds) 0 (sym c.is_empty.ensures ∙ c.if-is_empty.false) in
-    let some : 0 < length ds = omega (arith, empty) in
-    let alone : get_or ds 0 0 ≡ 48 → length ds ≡ 1 =
-    λ zero.
-    elim c.else-digits-eq48.branch [
-      | else-digits-eq48-via-then-digits-eq48+else-digits-gt1 w ↦ omega (arith, w.if-digits-gt1.false)
-      | else-digits-eq48-via-else-digits-eq48 w ↦ absurd (w.if-digits-eq48.false zero)
+pub returns-in_default : goal.returns-in_default
+returns-in_default c =
+    let bs = c.as_bytes.result.now in
+    let plain : get_or bs 0 0 ≡ 43 → ⊥ =
+    λ e.
+    elim c.in_default.branch [
+      | in_default-via-then-as_bytes-lt1 w ↦ omega (arith, ltb-true, get_or_past bs 0 0)
+      | in_default-via-else-as_bytes-lt1+then-this-lt2+in_default-1 w ↦ omega arith
+      | in_default-via-else-as_bytes-lt1+else-this-lt2+in_default-1 w ↦ omega arith
     ] in
-    subst (Spelt ds) (sym c.ok.ensures.value)
-    (parsed ds c.parse.result (subst (λ bs. ParsesUnsigned 64 10 bs c.parse.result) c.in-Ok.ensures.cases.0 c.parse.ensures.value.0) some c.if-digits-eq43.false alone)
-
-pub returns-in-Err : goal.returns-in-Err
-returns-in-Err c n small is = c.in-Err.ensures.cases.0 (decimal_utf8 n _ small is)
+    let alone : get_or bs 0 0 ≡ 48 → length bs ≤ 1 =
+    λ e.
+    elim c.in_default.branch [
+      | in_default-via-then-as_bytes-lt1 w ↦ omega (arith, ltb-true)
+      | in_default-via-else-as_bytes-lt1+then-this-lt2+in_default-1 w ↦ omega (arith, ltb-true)
+      | in_default-via-else-as_bytes-lt1+else-this-lt2+in_default-1 w ↦ omega arith
+    ] in
+    rw c.ok.ensures.value (parsed _ _ c.parse.ensures.value.0 (subst (λ xs. get_or xs 0 0 ≡ 43 → ⊥) c.as_bytes.ensures.value plain) (subst (λ xs. get_or xs 0 0 ≡ 48 → length xs ≤ 1) c.as_bytes.ensures.value alone))

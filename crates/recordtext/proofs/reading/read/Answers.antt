@@ -1,40 +1,38 @@
-use Rattle.std.proofs.Common.{length, sym, ap, ◌∙◌, subst, ap₂, arith}
-use Rattle.std.proofs.lemmas.List.{take_all}
-use Rattle.recordtext.specs.Texts.{record_text, Small}
-use Rattle.recordtext.proofs.States.{small_push, pushed, lines_paired, lines_more, line_within, bad_here}
+use Rattle.std.proofs.Common.{◌+◌, [], eqb, length, vec_items, sym, ◌∙◌, subst, append-nil, rules, tests}
+use Rattle.std.specs.Slice.Iter.{split_inclusive_rest}
+use Rattle.std.proofs.lemmas.Fn.{always_returns_same}
+use Rattle.recordtext.specs.Reads.{Front}
+use Rattle.recordtext.specs.Texts.{Small, Outside, Bad, state_line}
+use Rattle.recordtext.proofs.StateLines.{whole_line, whole_front, line_read, small_push}
 use Rattle.recordtext.proofs.reading.read.Goals as goal
 
-pub loop-at-init : goal.loop-at-init
-loop-at-init c =
-    let ts = c.new-stamps.ensures.items in
-    let ws = c.new-rows.ensures.items in (
-      omega arith,
-      ap length ts ∙ sym (ap length ws),
-      (λ k l. absurd (omega (arith, ap length ts))),
-      (λ k l. absurd (omega (arith, ap length ws))),
-      sym (ap₂ record_text ts ws),
-    )
+pub returns-in_err-line : goal.returns-in_err-line
+returns-in_err-line c =
+    let inv = c.loop-line.invariant in
+    let steps = c.in-Some.ensures.steps in
+    let rest = split_inclusive_rest c.loop-line.line-iterator in
+    let first = (steps.1.2 (λ b. eqb b 10) (always_returns_same _ _ _ (λ a r f' k. search (rules, tests)))).1 in
+    let alone : Outside c.in-Some.line.now = subst (Front c.in-Some.line.now) c.in_err-line.ensures.ok_part c.first_state.ensures in
+    let outside : Outside rest = λ t w tail ts ws is. alone t w [] ts ws (whole_line t w ts ws rest _ _ tail _ steps.0 steps.1.1 first is ∙ sym (append-nil (state_line t w))) in
+    let bad : Bad c.args.text.now (length (vec_items c.loop-line.stamps) + 1) =
+    record { stamps = vec_items c.loop-line.stamps; rows = vec_items c.loop-line.rows; rest = rest; paired = inv.paired; small = inv.small; before = inv.before; some = steps.2; outside = outside; number = search rules } in
+    search rules
 
-pub loop-at-preserved : goal.loop-at-preserved
-loop-at-preserved c =
-    let line = c.in-Some.ensures in
-    let pt = pushed c.push.result _ _ _ (sym c.is_err.ensures.value ∙ c.if-is_err.false) c.push.ensures.items in
-    let pw = pushed c.push-else-is_err.result _ _ _ (sym c.is_err-else-is_err.ensures.value ∙ c.if-is_err-2.false) c.push-else-is_err.ensures.items in (
-      line_within c.args.text.now c.loop-at.at c.in-Some.line.length c.loop-at-test.true line.2,
-      lines_paired c.args.text.now _ _ _ _ c.loop-at.at c.in-Some.line.length _ _ c.loop-at.invariant.1 c.loop-at.invariant.4 pt pw,
-      subst Small (sym pt) (small_push _ _ line.3.0 c.loop-at.invariant.2),
-      subst Small (sym pw) (small_push _ _ line.3.1 c.loop-at.invariant.3),
-      lines_more c.args.text.now _ _ _ _ c.loop-at.at c.in-Some.line.length _ _ c.loop-at.invariant.1 c.loop-at.invariant.4 pt pw line.0 line.2,
-    )
-
-pub returns-in_default : goal.returns-in_default
-returns-in_default c =
-    bad_here c.args.text.now _ _ c.loop-at.at _ c.loop-at-test.true c.loop-at.invariant.1 c.loop-at.invariant.2 c.loop-at.invariant.3 c.loop-at.invariant.4
-    c.in_default.ensures (c.len.ensures ∙ c.loop-at.stamps.ok.0)
-
-pub returns : goal.returns
-returns c = (
-  c.loop-at.invariant.1,
-  (c.loop-at.invariant.2, c.loop-at.invariant.3),
-  sym (take_all c.loop-at.at c.args.text.now c.loop-at-test.false) ∙ c.loop-at.invariant.4,
-)
+pub loop-line-preserved : goal.loop-line-preserved
+loop-line-preserved c =
+    let inv = c.loop-line.invariant in
+    let steps = c.in-Some.ensures.steps in
+    let rest = split_inclusive_rest c.loop-line.line-iterator in
+    let x = c.in-Some.line.now in
+    let first = (steps.1.2 (λ b. eqb b 10) (always_returns_same _ _ _ (λ a r f' k. search (rules, tests)))).1 in
+    let line = subst (Front x) c.in_ok-line.ensures.ok_part c.first_state.ensures in
+    let whole = whole_front _ _ line.3.0 line.3.1 rest x _ _ _ steps.0 steps.1.1 first line.0 in
+    let stamps = c.in_ok-push.ensures.items in
+    let rows = c.in_ok-push-2.ensures.items in
+    record {
+      can = search rules;
+      finite = search rules;
+      paired = search rules;
+      small = (subst Small (sym stamps) (small_push _ _ line.3.0 inv.small.0), subst Small (sym rows) (small_push _ _ line.3.1 inv.small.1));
+      before = rw (stamps, rows) (line_read _ _ _ _ _ _ _ _ inv.paired inv.before steps.0 whole);
+    }

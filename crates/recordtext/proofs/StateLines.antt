@@ -1,0 +1,137 @@
+-- The lines of states.
+use Rattle.std.proofs.Common.{rules, ◌≡◌, ℕ, ◌+◌, ◌^◌, ◌<◌, ◌≤◌, min, Bool, true, false, cond, eqb, ltb, List, [], ◌∷◌, ◌++◌, length, get_or, take, drop, Some, None, Ok, Err, Option, Result, IsUtf8, codes, decimal, sym, refl, ap, ◌∙◌, subst, ap₂, ⊎_elim, append_assoc, append-nil, arith, take-append-drop}
+use Rattle.std.specs.Result.{MatchResult, result_ok}
+use Rattle.std.specs.Str.Pattern.{FindsTextPrefix, StripsPrefix}
+use Rattle.std.specs.List.{All, IsFirstMatchOrLen, position, position_or_len}
+use Rattle.std.proofs.lemmas.List.{length-append, length_push, get_or_append_left, get_or_at, get_or_push, take_at, take_more, append_cancel_right, append_cancel_left}
+use Rattle.std.proofs.lemmas.List.Elements.{All-append, All-from_recursion, All-from_get_or, All-get_or}
+use Rattle.std.proofs.lemmas.List.Sums.{position_or_len_is}
+use Rattle.std.proofs.lemmas.List.Quantifiers.{position-Some}
+use Rattle.std.proofs.lemmas.Option.{same_Some, none-some}
+use Rattle.std.proofs.lemmas.Fmt.{IsAscii-decimal}
+use Rattle.std.proofs.lemmas.Bool.{cases_lt, cond-true, lt-ltb, ne_eqb, eqb-true}
+use Rattle.std.proofs.lemmas.Str.{IsUtf8-from_ascii}
+use Rattle.std.proofs.lemmas.Str.Ascii.{IsAscii-from_all, All-from_ascii}
+use Rattle.recordtext.specs.declared.state.State.{State}
+use Rattle.recordtext.specs.Texts.{state_body, state_line, record_text, Small}
+use Rattle.recordtext.specs.Reads.{numbers, Numbers, Body}
+use Rattle.recordtext.proofs.Spelling.{decimal_lacks}
+
+-- ---- the parts of a line
+
+-- what `ok` keeps of a result
+module _ {T E : Type 0} (P : T → Type 0) (Q : E → Type 0) where
+  pub at_some : (r : Result T E) (x : T) → Some x ≡ result_ok r → MatchResult r P Q → P x
+  at_some (Ok y) x e h = subst P (same_Some y x (sym e)) h
+  at_some (Err y) x e h = absurd (none-some x (sym e))
+
+  pub at_none : (r : Result T E) → None ≡ result_ok r → MatchResult r P Q → (y : E) × Q y
+  at_none (Ok y) e h = absurd (none-some y e)
+  at_none (Err y) e h = (y, h)
+
+-- a line that is text begins with what was stripped
+pub whole_of : (line text numbers : List ℕ) → text ≡ line → StripsPrefix (FindsTextPrefix (codes "(state ")) text numbers → line ≡ codes "(state " ++ numbers
+whole_of line text numbers same (n, found, is, len) = sym same ∙ found.1 ∙ ap (λ xs. codes "(state " ++ xs) (sym is)
+
+-- and what was stripped off the line of a state leaves its numbers
+pub body_from : (line rest : List ℕ) (r : Option State) → line ≡ codes "(state " ++ rest → Numbers rest r → Body line r
+body_from line rest None whole none = λ t w ts ws is. none t w ts ws (append_cancel_left (codes "(state ") rest (numbers t w) (sym whole ∙ is))
+body_from line rest (Some s) whole (is, fit) = (whole ∙ ap (λ xs. codes "(state " ++ xs) is, fit)
+
+-- two numbers put together again
+pub numbers_from : (text pair stamp row : List ℕ) → text ≡ pair ++ (41 ∷ []) → pair ≡ stamp ++ (32 ∷ row) → text ≡ stamp ++ (codes " " ++ (row ++ codes ")"))
+numbers_from text pair stamp row closed apart = closed ∙ ap (λ xs. xs ++ (41 ∷ [])) apart ∙ append_assoc stamp (32 ∷ row) (41 ∷ [])
+
+-- what holds of each byte of five parts
+joined_all : (P : ℕ → Type 0) (a b c d e : List ℕ) → All P a → All P b → All P c → All P d → All P e → All P (a ++ (b ++ (c ++ (d ++ e))))
+joined_all P a b c d e pa pb pc pd pe = All-append P a _ pa (All-append P b _ pb (All-append P c _ pc (All-append P d e pd pe)))
+
+clash : (b : Bool) → b ≡ true → b ≡ false → ⊥
+clash b t f = cc
+
+module _ (t w : ℕ) (ts : t < 2 ^ 64) (ws : w < 2 ^ 64) where
+  pub pair_of : (text pair : List ℕ) → text ≡ numbers t w → text ≡ pair ++ (41 ∷ []) → pair ≡ decimal t ++ (32 ∷ decimal w)
+  pair_of text pair is closed = append_cancel_right pair (decimal t ++ (32 ∷ decimal w)) (41 ∷ []) (sym closed ∙ is ∙ sym (append_assoc (decimal t) (32 ∷ decimal w) (41 ∷ [])))
+
+  pub stamp_lacks_space : (k : ℕ) → k < length (decimal t) → get_or (decimal t) k 0 ≡ 32 → ⊥
+  stamp_lacks_space = decimal_lacks 32 t ts (λ h. omega (arith, h.0))
+
+  pub body_utf8 : IsUtf8 (state_body t w)
+  body_utf8 =
+      let P : ℕ → Type 0 = λ b. b < 128 in
+      IsUtf8-from_ascii (state_body t w) (IsAscii-from_all (state_body t w)
+      (joined_all P (codes "(state ") (decimal t) (codes " ") (decimal w) (codes ")") (All-from_recursion P (codes "(state ") (search rules)) (All-from_ascii (decimal t) (IsAscii-decimal t ts))
+      (All-from_recursion P (codes " ") (search rules)) (All-from_ascii (decimal w) (IsAscii-decimal w ws)) (All-from_recursion P (codes ")") (search rules))))
+
+  number_lacks_newline : (n : ℕ) → n < 2 ^ 64 → All (λ b. eqb b 10 ≡ false) (decimal n)
+  number_lacks_newline n small = All-from_get_or (λ b. eqb b 10 ≡ false) (decimal n) 0 (λ k lt. ne_eqb _ 10 (decimal_lacks 10 n small (λ h. omega (arith, h.0)) k lt))
+
+  body_lacks_newline : All (λ b. eqb b 10 ≡ false) (state_body t w)
+  body_lacks_newline =
+      let P : ℕ → Type 0 = λ b. eqb b 10 ≡ false in
+      joined_all P (codes "(state ") (decimal t) (codes " ") (decimal w) (codes ")") (All-from_recursion P (codes "(state ") (search rules)) (number_lacks_newline t ts)
+      (All-from_recursion P (codes " ") (search rules)) (number_lacks_newline w ws) (All-from_recursion P (codes ")") (search rules))
+
+  -- the line of a state ends at the first newline
+  pub newline_at : (text tail : List ℕ) → text ≡ state_line t w ++ tail → position (λ b. eqb b 10) text ≡ Some (length (state_body t w))
+  newline_at text tail is =
+      let n = length (state_body t w) in
+      let parts : text ≡ state_body t w ++ (10 ∷ tail) = is ∙ append_assoc (state_body t w) (10 ∷ []) tail in
+      let within : n < length text = omega (arith, ap length parts, length-append (state_body t w) (10 ∷ tail)) in
+      let before : (k : ℕ) → k < n → eqb (get_or text k 0) 10 ≡ false =
+      λ k lt.
+      ap (λ xs. eqb (get_or xs k 0) 10) parts ∙ ap (λ b. eqb b 10) (get_or_append_left (state_body t w) (10 ∷ tail) 0 k lt) ∙ All-get_or (λ b. eqb b 10 ≡ false) (state_body t w) k 0 lt body_lacks_newline in
+      let here : eqb (get_or text n 0) 10 ≡ true = ap (λ xs. eqb (get_or xs n 0) 10) parts ∙ ap (λ b. eqb b 10) (get_or_at (state_body t w) 10 tail 0 n refl) in
+      let first : position_or_len (λ b. eqb b 10) text ≡ n = position_or_len_is (λ b. eqb b 10) text n 0 (omega (arith, within)) before (λ _. here) in
+      ap (λ m. cond (ltb m (length text)) (Some m) None) first ∙ cond-true _ _ _ (lt-ltb n (length text) within)
+
+  pub body_before_newline : (text tail : List ℕ) (n : ℕ) → text ≡ state_line t w ++ tail → Some n ≡ position (λ b. eqb b 10) text → take n text ≡ state_body t w
+  body_before_newline text tail n is found =
+      ap (take n) (is ∙ append_assoc (state_body t w) (10 ∷ []) tail) ∙ take_at (state_body t w) (10 ∷ tail) n (sym (same_Some _ _ (found ∙ newline_at text tail is)))
+
+  -- the line of a state is all that comes up to the first newline
+  pub whole_line : (rest x more tail : List ℕ) (i : ℕ) → rest ≡ x ++ more → length x ≡ min (i + 1) (length rest) → IsFirstMatchOrLen (λ b. eqb b 10) rest i → rest ≡ state_line t w ++ tail → x ≡ state_line t w
+  whole_line rest x more tail i parts long first is =
+      let n = length (state_body t w) in
+      let at = position-Some (λ b. eqb b 10) rest n 0 (newline_at rest tail is) in
+      let high : i ≤ n = ⊎_elim (λ lt. absurd (clash _ at.1 (first.0 n 0 (omega arith) lt))) (λ le. le) (cases_lt n i) in
+      let low : n ≤ i = ⊎_elim (λ lt. absurd (clash _ (first.1 (omega (arith, at.0)) 0) (at.2 i lt))) (λ le. le) (cases_lt i n) in
+      let here : length x ≡ n + 1 = omega (arith, at.0) in
+      sym (take_at x more (n + 1) here) ∙ ap (take (n + 1)) (sym parts ∙ is) ∙ take_at (state_line t w) tail (n + 1) (length-append (state_body t w) (10 ∷ []))
+
+  -- so a line that begins with it is no longer
+  pub whole_front : (rest x more : List ℕ) (i n : ℕ) → rest ≡ x ++ more → length x ≡ min (i + 1) (length rest) → IsFirstMatchOrLen (λ b. eqb b 10) rest i → take n x ≡ state_line t w → x ≡ state_line t w
+  whole_front rest x more i n parts long first front =
+      let cut : x ≡ state_line t w ++ drop n x = sym (take-append-drop n x) ∙ ap (λ xs. xs ++ drop n x) front in
+      whole_line rest x more (drop n x ++ more) i parts long first (parts ∙ ap (λ xs. xs ++ more) cut ∙ append_assoc (state_line t w) (drop n x) more)
+
+-- a body and its newline
+pub line_at : (text : List ℕ) (n t w : ℕ) → Some n ≡ position (λ b. eqb b 10) text → take n text ≡ state_body t w → (take (n + 1) text ≡ state_line t w) × (n + 1 ≤ length text)
+line_at text n t w found body =
+    let at = position-Some (λ b. eqb b 10) text n 0 (sym found) in
+    (take_more text n 0 at.0 ∙ ap₂ (λ xs b. xs ++ (b ∷ [])) body (eqb-true _ 10 at.1), omega (arith, at.0))
+
+-- ---- all lines
+
+pub record_push : (ts ws : List ℕ) (t w : ℕ) → length ts ≡ length ws → record_text (ts ++ (t ∷ [])) (ws ++ (w ∷ [])) ≡ record_text ts ws ++ state_line t w
+record_push [] [] t w e = append-nil (state_line t w)
+record_push [] (y ∷ ws) t w e = absurd (omega arith)
+record_push (x ∷ ts) [] t w e = absurd (omega arith)
+record_push (x ∷ ts) (y ∷ ws) t w e =
+    ap (λ xs. state_line x y ++ xs) (record_push ts ws t w (omega arith)) ∙ sym (append_assoc (state_line x y) (record_text ts ws) (state_line t w))
+
+-- one line more is read
+pub line_read : (text rest more ts ws x : List ℕ) (t w : ℕ) → length ts ≡ length ws → text ≡ record_text ts ws ++ rest → rest ≡ x ++ more → x ≡ state_line t w
+    → text ≡ record_text (ts ++ (t ∷ [])) (ws ++ (w ∷ [])) ++ more
+line_read text rest more ts ws x t w paired before parts line =
+    before ∙ ap (λ xs. record_text ts ws ++ xs) (parts ∙ ap (λ xs. xs ++ more) line) ∙ sym (append_assoc (record_text ts ws) (state_line t w) more)
+    ∙ ap (λ xs. xs ++ more) (sym (record_push ts ws t w paired))
+
+pub small_push : (xs : List ℕ) (x : ℕ) → x < 2 ^ 64 → Small xs → Small (xs ++ (x ∷ []))
+small_push xs x fits small k l =
+    ⊎_elim
+    (λ lt. subst (λ v. v < 2 ^ 64) (sym (get_or_append_left xs (x ∷ []) 0 k lt)) (small k lt))
+    (λ le.
+    let e : length xs ≡ k = omega (arith, length_push xs x) in
+    subst (λ v. v < 2 ^ 64) (sym (get_or_push xs x 0 k e)) fits)
+    (cases_lt k (length xs))
