@@ -13,14 +13,13 @@ use Rattle.session.specs.View as view
 use Rattle.session.specs.View.{View, Event, Did, undone, replay, put_reply, put_left, drop_reply, drop_left, commit_reply, commit_left, begin_reply, begin_left}
 use Rattle.std.proofs.lemmas.List.{map-append}
 use Rattle.syntax.specs.declared.Node.{Node}
-use Rattle.rules.specs.declared.table.Table.{Table}
 use Rattle.rules.specs.Tables.{nodes_of}
 use Rattle.query.specs.Rows.{row_of}
 use Rattle.history.specs.Histories.{State, stamps, facts_at, Rises}
 use Rattle.store.specs.Facts.{rising}
-use Rattle.session.specs.Values.{latest, later_than}
+use Rattle.eval.specs.Growing.{latest, later_than}
 use Rattle.session.specs.Book.{Book, feed, fed, new_book, Run, rest, then, Opened, Past, book_of, HoldsCurrent, BringsBack}
-use Rattle.session.proofs.Stamps.{rises_more}
+use Rattle.eval.proofs.Records.{rises_more}
 use Rattle.session.proofs.Counts.{how_altered}
 use Rattle.session.proofs.Replays.{replay_snoc}
 use Rattle.session.proofs.Meanings.{put_new, put_ok, sound_put, sound_drop, sound_replay, put_idle, put_undone, drop_idle, drop_undone}
@@ -191,9 +190,6 @@ advance v w (view.asked rule i r) b d t = moved v w b d.after t
 along : {v w : View} {es : List Event} (b : Book) → Run v es w → Tied v b → Tied w (fed b es)
 along b rest t = t
 along b (then {v} {w} {x} {e} d r) t = along (feed b e) r (advance v w e b d t)
-
-pub just_opened : (t : Table) (n : ℕ) (m : Meaning) → Lawful m → Opened (view.opened t n m)
-just_opened t n m sound = record { sound = sound; shut = refl; fresh = refl; unstamped = refl; unrowed = refl; running = refl }
 
 opened_tied : (o : View) → Opened o → Tied o (new_book o.store.facts)
 opened_tied o p = record {

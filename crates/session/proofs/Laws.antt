@@ -1,7 +1,7 @@
 -- The promises of a verdict.
 use Rattle.std.proofs.Common.{◌≡◌, ℕ, zero, suc, ◌+◌, ◌-◌, ◌<◌, ◌≤◌, Bool, true, false, List, [], ◌∷◌, ◌++◌, map, length, get_or, Some, None, Ok, Err, Option, sym, refl, ap, ◌∙◌, subst, ⊎_elim, append_assoc, append-nil, arith, length-append}
 use Rattle.std.proofs.lemmas.Bool.{both_ways, cases_Bool, cond-true, cond-false, lt-ltb}
-use Rattle.std.proofs.lemmas.List.{length-map}
+use Rattle.std.proofs.lemmas.List.{length-map, map-append, get_or_append_left}
 use Rattle.truth.specs.declared.Three.{Three}
 use Rattle.truth.specs.Kleene.{three, embed, Definite}
 use Rattle.syntax.specs.declared.Node.{Node}
@@ -19,7 +19,7 @@ use Rattle.eval.proofs.Theorems.{Begins, Equal, Embeds, DefiniteLeaves}
 use Rattle.eval.proofs.Growing.{persistence, agreement, soundness, finished_definite, embed_same}
 use Rattle.eval.proofs.Decided.{decidedness}
 use Rattle.history.specs.Histories.{State, stamps, Rises, facts_at, finished_record, true_in}
-use Rattle.session.specs.Values.{record_of}
+use Rattle.eval.specs.Growing.{growing_record}
 use Rattle.session.specs.View as view
 use Rattle.session.specs.View.{View, Event, asked, Did, rule_of, verdict_of, verdict_on, verdict_reply}
 use Rattle.session.specs.Book.{Book, feed, fed, new_book, Run, rest, then, Past, book_of, Pasts}
@@ -30,7 +30,7 @@ use Rattle.session.proofs.Books.{Agrees, Tied, rows_of, tied, begin_running, com
 
 -- what the session keeps of these states
 abbrev kept_record : List Node → List State → Bool → Record Three
-kept_record nodes states finished = record_of (stamps states) (rows_of nodes states) finished
+kept_record nodes states finished = growing_record (stamps states) (rows_of nodes states) finished
 
 row_at : (nodes : List Node) (xs : List State) (i : ℕ) → i < length xs → get_or (rows_of nodes xs) i 0 ≡ row_of nodes (facts_at xs i)
 row_at nodes [] i l = absurd (omega arith)
@@ -45,12 +45,10 @@ plain_leaf false = refl
 kept_definite : (nodes : List Node) (states : List State) (finished : Bool) → DefiniteLeaves (kept_record nodes states finished)
 kept_definite nodes states finished i m l = (bit_of (get_or (rows_of nodes states) i 0) m, plain_leaf (bit_of (get_or (rows_of nodes states) i 0) m))
 
-module _ {X : Type 0} (f : State → X) (d : X) where
-  -- more states leave the first as they are
-  front : (xs more : List State) (i : ℕ) → i < length xs → get_or (map f (xs ++ more)) i d ≡ get_or (map f xs) i d
-  front [] more i l = absurd (omega arith)
-  front (x ∷ xs) more zero l = refl
-  front (x ∷ xs) more (suc i) l = front xs more i (omega arith)
+-- more states leave the first as they are
+front : {X : Type 0} (f : State → X) (d : X) (xs more : List State) (i : ℕ) → i < length xs → get_or (map f (xs ++ more)) i d ≡ get_or (map f xs) i d
+front f d xs more i l =
+    ap (λ ys. get_or ys i d) (map-append f xs more) ∙ get_or_append_left (map f xs) (map f more) d i (omega (arith, length-map xs f))
 
 longer : (xs more : List State) → length (stamps xs) ≤ length (stamps (xs ++ more))
 longer xs more =
@@ -137,26 +135,6 @@ grows b (e ∷ es) =
     let all = grows (feed b e) es in
     (one.0 ++ all.0, all.1 ∙ ap (λ (l : List State). l ++ all.0) one.1 ∙ append_assoc b.states one.0 all.0)
 
--- no call changes the table
-table_stays : (v w : View) (e : Event) → Did v e w → w.table ≡ v.table
-table_stays v w (view.began (Ok s)) d = ap (λ (x : View). x.table) d.after
-table_stays v w (view.began (Err x)) d = ap (λ (x : View). x.table) d.after
-table_stays v w (view.put s f (Ok x)) d = ap (λ (y : View). y.table) d.after
-table_stays v w (view.put s f (Err x)) d = ap (λ (y : View). y.table) d.after
-table_stays v w (view.dropped s f (Ok x)) d = ap (λ (y : View). y.table) d.after
-table_stays v w (view.dropped s f (Err x)) d = ap (λ (y : View). y.table) d.after
-table_stays v w (view.committed s n (Ok x)) d = ap (λ (y : View). y.table) d.after
-table_stays v w (view.committed s n (Err x)) d = ap (λ (y : View). y.table) d.after
-table_stays v w (view.withdrew s (Some n)) d = ap (λ (y : View). y.table) d.after
-table_stays v w (view.withdrew s None) d = ap (λ (y : View). y.table) d.after
-table_stays v w (view.ended (Ok x)) d = ap (λ (y : View). y.table) d.after
-table_stays v w (view.ended (Err x)) d = ap (λ (y : View). y.table) d.after
-table_stays v w (view.asked n i r) d = ap (λ (y : View). y.table) d.after
-
-run_table : {v w : View} {es : List Event} → Run v es w → w.table ≡ v.table
-run_table rest = refl
-run_table (then {v} {w} {x} {e} d r) = run_table r ∙ table_stays v w e d
-
 -- a finished session keeps its states
 record Still (v w : View) : Type 0 where
   stamps : w.stamps ≡ v.stamps
@@ -164,39 +142,54 @@ record Still (v w : View) : Type 0 where
   over : w.finished ≡ true
   shut : w.changing ≡ false
 
-still_at : (v u w : View) → w ≡ u → Still v u → Still v w
-still_at v u w e h = subst (Still v) (sym e) h
+-- what no call changes: the table, and a finished session's states
+record Kept (v w : View) : Type 0 where
+  table : w.table ≡ v.table
+  still : v.finished ≡ true → v.changing ≡ false → Still v w
 
-still : (v w : View) (e : Event) → v.finished ≡ true → v.changing ≡ false → Did v e w → Still v w
-still v w (view.began (Ok s)) over shut d = absurd (both_ways _ (begin_running v s d.answer) over)
-still v w (view.began (Err x)) over shut d = still_at v v w d.after (record { stamps = refl; rows = refl; over = over; shut = shut })
-still v w (view.put s f (Ok x)) over shut d = still_at v _ w d.after (record { stamps = refl; rows = refl; over = over; shut = shut })
-still v w (view.put s f (Err x)) over shut d = still_at v _ w d.after (record { stamps = refl; rows = refl; over = over; shut = shut })
-still v w (view.dropped s f (Ok x)) over shut d = still_at v _ w d.after (record { stamps = refl; rows = refl; over = over; shut = shut })
-still v w (view.dropped s f (Err x)) over shut d = still_at v _ w d.after (record { stamps = refl; rows = refl; over = over; shut = shut })
-still v w (view.committed s n (Ok x)) over shut d = absurd (both_ways _ shut (commit_open v s n d.answer))
-still v w (view.committed s n (Err x)) over shut d = still_at v _ w d.after (record { stamps = refl; rows = refl; over = over; shut = shut })
-still v w (view.withdrew s (Some n)) over shut d = still_at v _ w d.after (record { stamps = refl; rows = refl; over = over; shut = refl })
-still v w (view.withdrew s None) over shut d = still_at v _ w d.after (record { stamps = refl; rows = refl; over = over; shut = shut })
-still v w (view.ended (Ok x)) over shut d = still_at v _ w d.after (record { stamps = refl; rows = refl; over = refl; shut = shut })
-still v w (view.ended (Err x)) over shut d = still_at v _ w d.after (record { stamps = refl; rows = refl; over = over; shut = shut })
-still v w (view.asked n i r) over shut d = still_at v _ w d.after (record { stamps = refl; rows = refl; over = over; shut = shut })
+-- a call that left the session as u, with these parts as they were
+kept_as : (v u w : View) → w ≡ u → u.table ≡ v.table → u.stamps ≡ v.stamps → u.rows ≡ v.rows → u.finished ≡ v.finished → u.changing ≡ v.changing → Kept v w
+kept_as v u w e t ts rs f c =
+    subst (Kept v) (sym e) (record { table = t; still = λ over shut. record { stamps = ts; rows = rs; over = f ∙ over; shut = c ∙ shut } })
 
-still_run : {v w : View} {es : List Event} → v.finished ≡ true → v.changing ≡ false → Run v es w → Still v w
-still_run over shut rest = record { stamps = refl; rows = refl; over = over; shut = shut }
-still_run over shut (then {v} {w} {x} {e} d r) =
-    let one = still v w e over shut d in
-    let all = still_run one.over one.shut r in
-    record { stamps = all.stamps ∙ one.stamps; rows = all.rows ∙ one.rows; over = all.over; shut = all.shut }
+kept : (v w : View) (e : Event) → Did v e w → Kept v w
+kept v w (view.began (Ok s)) d = record { table = ap (λ (x : View). x.table) d.after; still = λ over shut. absurd (both_ways _ (begin_running v s d.answer) over) }
+kept v w (view.began (Err x)) d = kept_as v v w d.after refl refl refl refl refl
+kept v w (view.put s f (Ok x)) d = kept_as v _ w d.after refl refl refl refl refl
+kept v w (view.put s f (Err x)) d = kept_as v v w d.after refl refl refl refl refl
+kept v w (view.dropped s f (Ok x)) d = kept_as v _ w d.after refl refl refl refl refl
+kept v w (view.dropped s f (Err x)) d = kept_as v v w d.after refl refl refl refl refl
+kept v w (view.committed s n (Ok x)) d = record { table = ap (λ (y : View). y.table) d.after; still = λ over shut. absurd (both_ways _ shut (commit_open v s n d.answer)) }
+kept v w (view.committed s n (Err x)) d = kept_as v v w d.after refl refl refl refl refl
+kept v w (view.withdrew s (Some n)) d =
+    subst (Kept v) (sym d.after) (record { table = refl; still = λ over shut. record { stamps = refl; rows = refl; over = over; shut = refl } })
+kept v w (view.withdrew s None) d = kept_as v v w d.after refl refl refl refl refl
+kept v w (view.ended (Ok x)) d =
+    subst (Kept v) (sym d.after) (record { table = refl; still = λ over shut. record { stamps = refl; rows = refl; over = refl; shut = shut } })
+kept v w (view.ended (Err x)) d = kept_as v v w d.after refl refl refl refl refl
+kept v w (view.asked n i r) d = kept_as v v w d.after refl refl refl refl refl
+
+run_kept : {v w : View} {es : List Event} → Run v es w → Kept v w
+run_kept rest = record { table = refl; still = λ over shut. record { stamps = refl; rows = refl; over = over; shut = shut } }
+run_kept (then {v} {w} {x} {e} d r) =
+    let one = kept v w e d in
+    let all = run_kept r in
+    record {
+      table = all.table ∙ one.table;
+      still = λ over shut.
+          let a = one.still over shut in
+          let b = all.still a.over a.shut in
+          record { stamps = b.stamps ∙ a.stamps; rows = b.rows ∙ a.rows; over = b.over; shut = b.shut };
+    }
 
 -- ---- the law
 
 -- the record of the session is that of its book
-by_book : (v : View) (b : Book) → Agrees v b → record_of v.stamps v.rows v.finished ≡ kept_record (nodes_of v.table) b.states b.finished
+by_book : (v : View) (b : Book) → Agrees v b → growing_record v.stamps v.rows v.finished ≡ kept_record (nodes_of v.table) b.states b.finished
 by_book v b a =
-    ap (λ (ts : List ℕ). record_of ts v.rows v.finished) a.stamps
-    ∙ ap (λ (rs : List ℕ). record_of (stamps b.states) rs v.finished) a.rows
-    ∙ ap (λ (o : Bool). record_of (stamps b.states) (rows_of (nodes_of v.table) b.states) o) (sym a.finished)
+    ap (λ (ts : List ℕ). growing_record ts v.rows v.finished) a.stamps
+    ∙ ap (λ (rs : List ℕ). growing_record (stamps b.states) rs v.finished) a.rows
+    ∙ ap (λ (o : Bool). growing_record (stamps b.states) (rows_of (nodes_of v.table) b.states) o) (sym a.finished)
 
 reply : (v : View) (rule : ℕ) (f : Formula) (i : ℕ) → rule_of v.table rule ≡ Some f → i < length v.stamps → verdict_reply v rule i ≡ Ok (verdict_of v f i)
 reply v rule f i e li = let there = lt-ltb _ _ li in ap (λ (o : Option Formula). verdict_on v o i) e ∙ grind (arith, there)
@@ -205,9 +198,9 @@ reply v rule f i e li = let there = lt-ltb _ _ li in ap (λ (o : Option Formula)
 stays_finished :
     (v w : View) (f : Formula) (i : ℕ) → v.finished ≡ true → Still v w → verdict_of w f i ≡ verdict_of v f i
 stays_finished v w f i fin s =
-    ap (λ (ts : List ℕ). value three (record_of ts w.rows w.finished) f i) s.stamps
-    ∙ ap (λ (rs : List ℕ). value three (record_of v.stamps rs w.finished) f i) s.rows
-    ∙ ap (λ (o : Bool). value three (record_of v.stamps v.rows o) f i) (s.over ∙ sym fin)
+    ap (λ (ts : List ℕ). value three (growing_record ts w.rows w.finished) f i) s.stamps
+    ∙ ap (λ (rs : List ℕ). value three (growing_record v.stamps rs w.finished) f i) s.rows
+    ∙ ap (λ (o : Bool). value three (growing_record v.stamps v.rows o) f i) (s.over ∙ sym fin)
 
 stays_running :
     (v w : View) (b c : Book) (f : Formula) (i : ℕ) → Tied v b → Tied w c → w.table ≡ v.table → Grown b c
@@ -216,8 +209,8 @@ stays_running v w b c f i tv tw table grown li d run =
     let nodes = nodes_of v.table in
     let old = kept_record nodes b.states b.finished in
     let new = kept_record nodes c.states c.finished in
-    let at-v : record_of v.stamps v.rows v.finished ≡ old = by_book v b tv.agrees in
-    let at-w : record_of w.stamps w.rows w.finished ≡ new =
+    let at-v : growing_record v.stamps v.rows v.finished ≡ old = by_book v b tv.agrees in
+    let at-w : growing_record w.stamps w.rows w.finished ≡ new =
     by_book w c tw.agrees ∙ ap (λ (t : Table). kept_record (nodes_of t) c.states c.finished) table in
     let begins : Begins Equal old new =
     subst (λ (l : List State). Begins Equal old (kept_record nodes l c.finished)) (sym grown.1) (states_begin nodes b.states grown.0 b.finished c.finished) in
@@ -261,10 +254,11 @@ lawful v rule i past f e li =
             let c = book_of (later past run) in
             let tw : Tied w c = tied (later past run) in
             let grown : Grown b c = subst (Grown b) (sym (fed_join (new_book past.first.store.facts) past.calls calls)) (grows b calls) in
-            let table : w.table ≡ v.table = run_table run in
-            let kept : verdict_of w f i ≡ verdict_of v f i =
-            ⊎_elim (λ fin. stays_finished v w f i fin (still_run fin (tv.quiet fin) run)) (stays_running v w b c f i tv tw table grown lv d) (cases_Bool v.finished) in
-            asked.answer ∙ reply w rule f i (ap (λ (t : Table). rule_of t rule) table ∙ e) (no_fewer v w b c i tv tw grown lv) ∙ ap Ok kept;
+            let kept_since : Kept v w = run_kept run in
+            let table : w.table ≡ v.table = kept_since.table in
+            let same_again : verdict_of w f i ≡ verdict_of v f i =
+            ⊎_elim (λ fin. stays_finished v w f i fin (kept_since.still fin (tv.quiet fin))) (stays_running v w b c f i tv tw table grown lv d) (cases_Bool v.finished) in
+            asked.answer ∙ reply w rule f i (ap (λ (t : Table). rule_of t rule) table ∙ e) (no_fewer v w b c i tv tw grown lv) ∙ ap Ok same_again;
         timely = λ d reaches le.
             subst Definite (sym same)
             (decidedness r sure up f d i reaches ls (subst (λ (n : ℕ). stamp_at b i + d ≤ stamp_at b (n - 1)) (sym many) le));

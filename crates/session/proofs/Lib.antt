@@ -1,5 +1,3 @@
-pub mod Places
-pub mod Stamps
 pub mod Replays
 pub mod Meanings
 pub mod Counts

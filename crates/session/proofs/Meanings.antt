@@ -1,5 +1,5 @@
 -- What a put or a drop leaves of a store, and what takes it back.
-use Rattle.std.proofs.Common.{◌≡◌, suc, ◌≤◌, Bool, true, false, not, ◌&&◌, ◌||◌, eqb, List, [], ◌∷◌, length, is_ok, Ok, sym, refl, ap, ◌∙◌, subst, ⊎_elim, arith}
+use Rattle.std.proofs.Common.{◌≡◌, ◌≤◌, Bool, true, false, not, ◌&&◌, ◌||◌, eqb, List, [], ◌∷◌, length, is_ok, Ok, sym, refl, ap, ◌∙◌, subst, ⊎_elim, arith}
 use Rattle.std.proofs.lemmas.Bool.{cases_Bool, cond-true, cond-false, and_parts, ne_eqb}
 use Rattle.std.proofs.lemmas.Bool.Decides.{nat_tests}
 use Rattle.store.specs.declared.facts.Fact.{Fact}
@@ -7,7 +7,7 @@ use Rattle.store.specs.Facts.{same, rising, holds, with_fact, without_fact}
 use Rattle.store.specs.Stores.{Meaning, Lawful, put_answer, after_put, after_drop}
 use Rattle.store.proofs.Order.{same_refl, same_eq}
 use Rattle.store.proofs.Members.{same_members, holds_with, holds_without}
-use Rattle.store.proofs.Sets.{with_present, without_absent, rising_with, rising_without, length_with_absent}
+use Rattle.store.proofs.Sets.{with_present, without_absent, rising_with, rising_without, length_with_absent, length_without_present}
 use Rattle.session.specs.declared.alterations.Alteration.{Alteration}
 use Rattle.session.specs.declared.alterations.Alteration.TheVariants.{Added, Removed}
 use Rattle.session.specs.View.{undone, replay}
@@ -39,10 +39,6 @@ with_without f s r h =
 
 gone : (f : Fact) (s : List Fact) → holds f (without_fact f s) ≡ false
 gone f s = holds_without f f s ∙ ap (λ (b : Bool). not b && holds f s) (same_refl f)
-
--- one fact fewer
-pub fewer : (f : Fact) (s : List Fact) → rising s ≡ true → holds f s ≡ true → suc (length (without_fact f s)) ≡ length s
-fewer f s r h = sym (length_with_absent f (without_fact f s) (gone f s)) ∙ ap length (with_without f s r h)
 
 -- ---- stores
 
@@ -88,7 +84,7 @@ sound_drop f m s = record {
   taken = λ g h. s.taken g (and_parts _ _ (sym (holds_without g f m.facts) ∙ h)).1;
   ranged = s.ranged;
   fits =
-      ⊎_elim (λ h. omega (arith, fewer f m.facts s.rises h, s.fits))
+      ⊎_elim (λ h. omega (arith, length_without_present f m.facts s.rises h, s.fits))
       (λ h. subst (λ (u : List Fact). length u ≤ m.room) (sym (without_absent f m.facts h)) s.fits)
       (cases_Bool (holds f m.facts));
   small = s.small;
@@ -118,7 +114,7 @@ drop_idle f m h = ap (λ (u : List Fact). holding u m) (without_absent f m.facts
 pub drop_undone : (f : Fact) (m : Meaning) → Lawful m → holds f m.facts ≡ true → undone (Removed f) (after_drop f m) ≡ m
 drop_undone f m s h =
     let taken : m.takes f ≡ true = s.taken f h in
-    let short = fewer f m.facts s.rises h in
+    let short = length_without_present f m.facts s.rises h in
     let room : eqb (length (without_fact f m.facts)) m.room ≡ false = ne_eqb _ _ (λ e. omega (arith, short, s.fits, e)) in
     let missing = gone f m.facts in
     let goes : put_answer f (after_drop f m) ≡ Ok true = grind (arith, taken, room, missing) in

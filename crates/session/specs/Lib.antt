@@ -1,6 +1,5 @@
 pub mod Faults
 pub mod Refusals
-pub mod Values
 pub mod View
 pub mod Steps
 pub mod Book

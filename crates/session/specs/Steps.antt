@@ -1,13 +1,11 @@
 -- What the inner functions of the calls give.
-use Rattle.std.specs.Prelude.{Bool, cond, not, ◌&&◌, [], Ok, Err, Result}
+use Rattle.std.specs.Prelude.{cond, not, ◌&&◌, [], Ok, Err, Result}
 use Rattle.store.specs.declared.facts.Fact.{Fact}
-use Rattle.store.specs.declared.stores.StoreFault.{StoreFault}
 use Rattle.store.specs.Facts.{holds, in_range}
 use Rattle.session.specs.declared.slip.Slip.{Slip}
-use Rattle.session.specs.declared.fault.InChange.{InChange}
 use Rattle.session.specs.declared.fault.SessionFault.{SessionFault}
 use Rattle.session.specs.declared.fault.SessionFault.TheVariants.{OutOfRange, NotOpenChange, TooManyAlterations}
-use Rattle.session.specs.View.{View, with_store, with_change, owned, in_change, crowded, replay}
+use Rattle.session.specs.View.{View, with_store, with_change, owned, crowded, replay}
 
 -- the refusals of a put that are not the store's
 abbrev pub put_guard : View → Slip → Fact → Result (Unit {0}) SessionFault
@@ -19,11 +17,6 @@ put_guard v s f =
     (Err NotOpenChange))
     (Ok tt))
     (Err OutOfRange)
-
--- the store's answer to a put, as the session hands it on
-abbrev pub beside : Slip → Result Bool StoreFault → Result Bool InChange
-beside s (Ok b) = Ok b
-beside s (Err e) = Err (in_change s e)
 
 -- the store as the undo list gives it back
 abbrev pub restored : View → View

@@ -14,6 +14,7 @@ use Rattle.store.specs.Facts.{holds, in_range}
 use Rattle.store.specs.Stores.{Meaning, put_answer, after_put, after_drop}
 use Rattle.query.specs.Rows.{row_of}
 use Rattle.eval.specs.Truth.{value}
+use Rattle.eval.specs.Growing.{latest, later_than, growing_record}
 use Rattle.session.specs.declared.slip.Slip.{Slip}
 use Rattle.session.specs.declared.slip.CommitRefused.{CommitRefused}
 use Rattle.session.specs.declared.alterations.Alteration.{Alteration}
@@ -23,7 +24,6 @@ use Rattle.session.specs.declared.fault.SessionFault.{SessionFault}
 use Rattle.session.specs.declared.fault.SessionFault.TheVariants.{OutOfRange, StampTooLarge, UnknownRule, NotOpenChange, ChangeOpen, Finished, TooManyBegins, StampNotLater, TooManyStates, TooManyAlterations, NoSuchState, Store}
 use Rattle.session.specs.declared.session.Session.{Session}
 use Rattle.session.specs.Refusals.{Reason, reason, smallest, unless}
-use Rattle.session.specs.Values.{latest, later_than, record_of}
 
 -- `undo` has the alterations of the open change, `rows` the queries' answers on the facts of each committed state
 pub record View : Type 0 where
@@ -201,7 +201,7 @@ rule_of t number = formula_of (nodes_of t) (root_of number (rules_of t))
 
 -- the three-valued truth of a formula at a committed state
 abbrev pub verdict_of : View → Formula → ℕ → Three
-verdict_of v f i = value three (record_of v.stamps v.rows v.finished) f i
+verdict_of v f i = value three (growing_record v.stamps v.rows v.finished) f i
 
 abbrev pub verdict_reasons : View → Option Formula → ℕ → List Reason
 verdict_reasons v rule i = reason UnknownRule (not (is_some rule)) ∷ reason NoSuchState (not (nat_lt i (length v.stamps))) ∷ []

@@ -1,16 +1,17 @@
 //! The alterations of the open change, in their order.
-ghost use Rattle.std.specs.Prelude.{◌≡◌, ◌+◌, ◌<◌, ◌≤◌, Bool, [], ◌∷◌, ◌++◌, Some, None, vec_len, vec_capacity};
+ghost use Rattle.std.specs.Prelude.{◌≡◌, ◌+◌, ◌<◌, ◌≤◌, Bool, [], ◌∷◌, ◌++◌, MatchOption, vec_len, vec_capacity};
 
 use store::Fact;
 
 /// A fact that a put added, or that a drop removed.
+// Stays: neither case is a failure, as in a Result; they are the two ways to alter a set.
 #[derive(Clone, Copy)]
 pub enum Alteration {
     Added(Fact),
     Removed(Fact),
 }
 
-// At most 64, with room for them.
+/// At most 64, with room for them.
 #[derive(Drop)]
 pub struct Alterations {
     pub(crate) steps: Vec<Alteration>,
@@ -38,9 +39,9 @@ impl Alterations {
         self.steps.clear();
     }
 
-    // The latest taken out.
+    /// The latest taken out.
     pub(crate) fn pop(&mut self) -> Option<Alteration>
-        ensures { elim result [ None ↦ (self.old.steps.items ≡ []) × (self.new.steps.items ≡ []) | Some step ↦ (vec_len self.new.steps + 1 ≡ vec_len self.old.steps) × (self.old.steps.items ≡ self.new.steps.items ++ (step ∷ [])) ] }
+        ensures { MatchOption result ((self.old.steps.items ≡ []) × (self.new.steps.items ≡ [])) (λ step. (vec_len self.new.steps + 1 ≡ vec_len self.old.steps) × (self.old.steps.items ≡ self.new.steps.items ++ (step ∷ []))) }
     {
         self.steps.pop()
     }

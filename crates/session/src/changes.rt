@@ -1,9 +1,8 @@
 //! The changes of a session.
 ghost use Rattle.std.specs.Prelude.{◌≡◌};
-ghost use Rattle.store.specs.Stores.{put_answer, after_put};
 ghost use Rattle.session.specs.Book.{BringsBack};
-ghost use Rattle.session.specs.Refusals.{smallest};
-ghost use Rattle.session.specs.Steps.{beside, put_guard, restored};
+ghost use Rattle.session.specs.Refusals.{smallest, unless};
+ghost use Rattle.session.specs.Steps.{put_guard, restored};
 ghost use Rattle.session.specs.View.{view, Event, began, dropped, committed, withdrew, Did, owned, commit_reasons, undone};
 
 use crate::alterations::Alteration;
@@ -23,7 +22,7 @@ impl<'t, S: Store> Session<'t, S> {
         if self.changing {
             return Err(SessionFault::ChangeOpen);
         }
-        if self.states.finished {
+        if self.states.is_finished() {
             return Err(SessionFault::Finished);
         }
         if self.begins >= 1_000_000 {
@@ -38,7 +37,7 @@ impl<'t, S: Store> Session<'t, S> {
         })
     }
 
-    // Whether the slip is the open change's.
+    /// Whether the slip is the open change's.
     fn owns(&self, slip: &Slip) -> bool
         ensures { result ≡ owned (view S.Store.meaning self.now) slip.now }
     {
@@ -54,14 +53,16 @@ impl<'t, S: Store> Session<'t, S> {
         ensures { Did (view S.Store.meaning self.old) (Event.put slip.now fact result) (view S.Store.meaning self.new) }
     {
         self.may_put(slip, fact)?;
-        let added = put_beside(&mut self.store, slip, fact)?;
+        let change = slip.change;
+        let answer = self.store.put(fact);
+        let added = answer.map_err(|fault| InChange { fault, change })?;
         if added {
             self.undo.push(Alteration::Added(fact));
         }
         Ok(added)
     }
 
-    // The refusals of a put that are not the store's. A fact that the store does not take is left to the store.
+    /// The refusals of a put that are not the store's. A fact that the store does not take is left to the store.
     fn may_put(&self, slip: &Slip, fact: Fact) -> Result<(), SessionFault>
         ensures { result ≡ put_guard (view S.Store.meaning self.now) slip.now fact }
     {
@@ -93,7 +94,7 @@ impl<'t, S: Store> Session<'t, S> {
         if !self.owns(slip) {
             return Err(SessionFault::NotOpenChange);
         }
-        if self.store.contains(fact) && self.undo.len() > 63 {
+        if self.store.contains(fact) && self.undo.len() >= 64 {
             return Err(SessionFault::TooManyAlterations);
         }
         let removed = self.store.drop_fact(fact);
@@ -104,42 +105,43 @@ impl<'t, S: Store> Session<'t, S> {
     }
 
     /// Makes the store's facts the next state, at the stamp. A refused commit gives the slip back.
-    /// Cost: the row of the table's queries, and one evaluation of the table over the states; no allocation.
+    /// Cost: the row of the table's queries, a look at the value of each node at each state, and the window of each that
+    /// is undecided; no allocation.
     ///
     /// Refused with 24 if the stamp is above 4,000,000,000, 51 if the slip is not the open change's, 55 if the stamp
     /// is not later than the last, 56 if 512 states are committed.
     pub fn commit(&mut self, slip: Slip, stamp: u64) -> Result<(), CommitRefused>
         ensures { Did (view S.Store.meaning self.old) (committed slip stamp result) (view S.Store.meaning self.new) }
     {
-        if let Some(fault) = self.commit_fault(&slip, stamp) {
+        // Stays: the closure of a `map_err` would take the slip, refused or not.
+        if let Err(fault) = self.may_commit(&slip, stamp) {
             return Err(CommitRefused { slip, fault });
         }
         slip.spend();
-        let row = row(&self.store, self.states.table);
-        self.states.push(stamp, row);
+        let row = row(&self.store, self.states.table());
+        self.states.push(stamp, row).unwrap();
         self.undo.clear();
         self.changing = false;
         Ok(())
     }
 
-    fn commit_fault(&self, slip: &Slip, stamp: u64) -> Option<SessionFault>
-        ensures { result ≡ smallest (commit_reasons (view S.Store.meaning self.now) slip.now stamp) }
+    /// The refusals of a commit.
+    fn may_commit(&self, slip: &Slip, stamp: u64) -> Result<(), SessionFault>
+        ensures { result ≡ unless (smallest (commit_reasons (view S.Store.meaning self.now) slip.now stamp)) tt }
     {
         if stamp > 4_000_000_000 {
-            return Some(SessionFault::StampTooLarge);
+            return Err(SessionFault::StampTooLarge);
         }
         if !self.owns(slip) {
-            return Some(SessionFault::NotOpenChange);
+            return Err(SessionFault::NotOpenChange);
         }
-        if let Some(last) = self.states.last_stamp() {
-            if stamp <= last {
-                return Some(SessionFault::StampNotLater);
-            }
+        if self.states.last_stamp().is_some_and(|last| stamp <= last) {
+            return Err(SessionFault::StampNotLater);
         }
         if self.states.len() >= 512 {
-            return Some(SessionFault::TooManyStates);
+            return Err(SessionFault::TooManyStates);
         }
-        None
+        Ok(())
     }
 
     /// Restores the set from before the change began, and says how many alterations that took.
@@ -152,12 +154,6 @@ impl<'t, S: Store> Session<'t, S> {
         ensures answer { Did (view S.Store.meaning self.old) (withdrew slip result) (view S.Store.meaning self.new) }
         ensures book { BringsBack (view S.Store.meaning self.old) result (view S.Store.meaning self.new) }
     {
-        self.taken_back(slip)
-    }
-
-    fn taken_back(&mut self, slip: Slip) -> Option<usize>
-        ensures { Did (view S.Store.meaning self.old) (withdrew slip result) (view S.Store.meaning self.new) }
-    {
         let open = self.owns(&slip);
         slip.spend();
         if !open {
@@ -169,7 +165,7 @@ impl<'t, S: Store> Session<'t, S> {
         Some(count)
     }
 
-    // Takes the alterations of the open change back, the latest first.
+    /// Takes the alterations of the open change back, the latest first.
     fn undo_all(&mut self)
         ensures { view S.Store.meaning self.new ≡ restored (view S.Store.meaning self.old) }
     {
@@ -179,27 +175,15 @@ impl<'t, S: Store> Session<'t, S> {
     }
 }
 
-// The store's answer to a put, a refusal with the slip's change beside it.
-fn put_beside<S: Store>(store: &mut S, slip: &Slip, fact: Fact) -> Result<bool, InChange>
-    ensures answer { result ≡ beside slip.now (put_answer fact (S.Store.meaning store.old)) }
-    ensures after { S.Store.meaning store.new ≡ after_put fact (S.Store.meaning store.old) }
-{
-    match store.put(fact) {
-        Ok(added) => Ok(added),
-        Err(fault) => Err(InChange {
-            fault,
-            change: slip.change,
-        }),
-    }
-}
-
+// Stays: an alteration is kept as data, since a closure would hold the store that the calls in between alter.
 fn take_back<S: Store>(store: &mut S, step: Alteration)
     ensures { S.Store.meaning store.new ≡ undone step (S.Store.meaning store.old) }
 {
     match step {
         Alteration::Added(fact) => {
-            let _ = store.drop_fact(fact);
+            store.drop_fact(fact);
         }
+        // The store held the fact when it was removed, so it takes it and has a place for it again.
         Alteration::Removed(fact) => {
             let _ = store.put(fact);
         }

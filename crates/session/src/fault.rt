@@ -6,13 +6,13 @@ ghost use Rattle.session.specs.Faults.{fault_number};
 use store::StoreFault;
 
 /// A store's refusal, with the number of the change beside it.
-#[derive(Clone, Copy)]
+#[derive(Clone, Copy, PartialEq, Eq, Debug)]
 pub struct InChange {
     pub fault: StoreFault,
     pub change: u32,
 }
 
-#[derive(Clone, Copy)]
+#[derive(Clone, Copy, PartialEq, Eq, Debug)]
 pub enum SessionFault {
     /// 23: the relation, key or value of a fact is out of range.
     OutOfRange,
@@ -45,6 +45,7 @@ impl SessionFault {
     pub fn number(self) -> u8
         ensures { result ≡ fault_number self }
     {
+        // Stays: the numbers are published, and a variant with a field has no number of its own to cast.
         match self {
             SessionFault::OutOfRange => 23,
             SessionFault::StampTooLarge => 24,

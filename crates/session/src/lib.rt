@@ -8,7 +8,6 @@ mod record;
 mod room;
 mod session;
 mod slip;
-mod states;
 
 pub use alterations::Alteration;
 pub use fault::{InChange, SessionFault};

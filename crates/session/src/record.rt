@@ -2,13 +2,13 @@
 ghost use Rattle.std.specs.Prelude.{◌≡◌};
 ghost use Rattle.session.specs.Book.{Opened, Pasts, HoldsCurrent};
 ghost use Rattle.session.specs.Law.{Law};
-ghost use Rattle.session.specs.View.{view, opened, ended, asked, Did, verdict_reply};
+ghost use Rattle.session.specs.View.{view, opened, ended, asked, Did};
 
 use crate::alterations::Alterations;
 use crate::fault::*;
 use crate::room::Room;
 use crate::session::Session;
-use crate::states::States;
+use eval::evaluated::EvaluatedRecord;
 use rules::table::Table;
 use store::Store;
 use truth::Three;
@@ -22,26 +22,14 @@ impl<'t, S: Store> Session<'t, S> {
         ensures first { Opened (view S.Store.meaning result) }
         ensures pasts { Pasts }
     {
-        Session::fresh(store, table, number, room)
-    }
-
-    fn fresh(store: S, table: &'t Table, number: u16, room: Room) -> Self
-        ensures { view S.Store.meaning result ≡ opened table.now number (S.Store.meaning store) }
-    {
-        let Room {
-            steps,
-            stamps,
-            rows,
-            values,
-        } = room;
-        let states = States::new(table, stamps, rows, values);
+        let Room { steps, states } = room;
         Session {
             store,
             number,
             begins: 0,
             changing: false,
             undo: Alterations { steps },
-            states,
+            states: EvaluatedRecord::new(table, states),
         }
     }
 
@@ -52,12 +40,7 @@ impl<'t, S: Store> Session<'t, S> {
         ensures store { S.Store.meaning result ≡ (view S.Store.meaning self.entry).store }
         ensures book { HoldsCurrent (view S.Store.meaning self.entry) }
     {
-        self.into_store()
-    }
-
-    fn into_store(self) -> S
-        ensures { S.Store.meaning result ≡ (view S.Store.meaning self.entry).store }
-    {
+        // Stays: `..` is refused where the type is not `Drop`.
         let Session {
             store,
             number: _,
@@ -69,7 +52,8 @@ impl<'t, S: Store> Session<'t, S> {
         store
     }
 
-    /// Closes the record, with or without states. Cost: one evaluation of the table over the states; no allocation.
+    /// Closes the record, with or without states. Cost: a look at the value of each node at each state, and the
+    /// window of each that is undecided; no allocation.
     ///
     /// Refused with 52 while a change is open, 53 after finish.
     pub fn finish(&mut self) -> Result<(), SessionFault>
@@ -78,7 +62,7 @@ impl<'t, S: Store> Session<'t, S> {
         if self.changing {
             return Err(SessionFault::ChangeOpen);
         }
-        if self.states.finished {
+        if self.states.is_finished() {
             return Err(SessionFault::Finished);
         }
         self.states.finish();
@@ -94,18 +78,9 @@ impl<'t, S: Store> Session<'t, S> {
         ensures answer { Did (view S.Store.meaning self.now) (asked rule state result) (view S.Store.meaning self.now) }
         ensures law { Law (view S.Store.meaning self.now) rule state result }
     {
-        self.looked_up(rule, state)
-    }
-
-    fn looked_up(&self, rule: u8, state: usize) -> Result<Three, SessionFault>
-        ensures { result ≡ verdict_reply (view S.Store.meaning self.now) rule state }
-    {
-        let Some(node) = self.states.table.root(rule) else {
-            return Err(SessionFault::UnknownRule);
-        };
-        if state >= self.states.len() {
-            return Err(SessionFault::NoSuchState);
-        }
-        Ok(self.states.value_at(node, state))
+        let root = self.states.table().root(rule);
+        let node = root.ok_or(SessionFault::UnknownRule)?;
+        let value = self.states.value_at(node, state);
+        value.ok_or(SessionFault::NoSuchState)
     }
 }

@@ -7,8 +7,9 @@ pub struct Slip {
 }
 
 impl Slip {
-    // Uses the slip up.
+    /// Uses the slip up.
     pub(crate) fn spend(self) {
+        // Stays: `..` is refused where the type is not `Drop`.
         let Slip {
             session: _,
             change: _,

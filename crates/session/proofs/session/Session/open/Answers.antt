@@ -1,12 +1,16 @@
-use Rattle.std.proofs.Common.{sym, subst}
-use Rattle.session.specs.Book.{Opened}
-use Rattle.session.proofs.Books.{just_opened}
+use Rattle.std.proofs.Common.{refl}
 use Rattle.session.proofs.Laws.{pasts}
 use Rattle.session.proofs.session.Session.open.Goals as goal
 
-pub returns : goal.returns
-returns g c = record {
-  after = c.fresh.ensures;
-  first = subst Opened (sym c.fresh.ensures) (just_opened c.args.table.now c.args.number _ (g.met.S.Store.lawful c.args.store));
-  pasts = pasts;
+pub returns-clause-first : goal.returns-clause-first
+returns-clause-first g c = record {
+  sound = g.met.S.Store.lawful c.args.store;
+  shut = refl;
+  fresh = c.args.room.no_steps;
+  unstamped = c.new.ensures.stamps;
+  unrowed = c.new.ensures.rows;
+  running = c.new.ensures.finished;
 }
+
+pub returns-clause-pasts : goal.returns-clause-pasts
+returns-clause-pasts g c = pasts
