@@ -1,5 +1,5 @@
 -- A table finds each of its own rules by its number.
-use Rattle.std.proofs.Common.{◌≡◌, ℕ, zero, suc, ◌+◌, ◌<◌, ◌≤◌, true, ◌&&◌, leb, List, [], ◌∷◌, length, get_or, Some, refl, ap, ◌∙◌, arith}
+use Rattle.std.proofs.Common.{◌≡◌, ℕ, zero, suc, ◌+◌, ◌<◌, ◌≤◌, true, ◌&&◌, leb, List, [], ◌∷◌, length, get_or, Some, None, refl, ap, ◌∙◌, arith}
 use Rattle.std.proofs.lemmas.Bool.{cond-true, cond-false, and_parts, eq-eqb, ne_eqb, leb-true}
 use Rattle.syntax.specs.declared.Rule.{Rule}
 use Rattle.syntax.specs.Formula.{reach}
@@ -8,7 +8,7 @@ use Rattle.grammar.specs.Invariants.{rising}
 use Rattle.rules.specs.declared.table.Table.{Table}
 use Rattle.rules.specs.Tables.{nodes_of, rules_of}
 use Rattle.rules.specs.Reaches.{root_reach, rule_reach}
-use Rattle.report.specs.Answered.{answered}
+use Rattle.std.specs.Result.{result_unwrap_or}
 
 -- the first of rising numbers, and the others
 first : (least : ℕ) (r : Rule) (rs : List Rule) → rising least (r ∷ rs) ≡ true → least ≤ r.number
@@ -31,5 +31,5 @@ module _ (d : Rule) where
       cond-false _ _ _ (ne_eqb r.number (get_or rs i d).number other) ∙ found (r.number + 1) rs i (others least r rs h) (omega arith)
 
   -- so the reach that it answers is that of the rule's formula
-  pub own_reach : (t : Table) (i : ℕ) → i < length (rules_of t) → answered (rule_reach (get_or (rules_of t) i d).number (nodes_of t) (rules_of t)) ≡ reach (formula_at (nodes_of t) (get_or (rules_of t) i d).root)
-  own_reach t i lt = ap (λ o. answered (root_reach (nodes_of t) o)) (found 1 (rules_of t) i t.risen lt)
+  pub own_reach : (t : Table) (i : ℕ) (r : Rule) → r ≡ get_or (rules_of t) i d → i < length (rules_of t) → result_unwrap_or (rule_reach r.number (nodes_of t) (rules_of t)) None ≡ reach (formula_at (nodes_of t) r.root)
+  own_reach t i r is lt = rw is (ap (λ o. result_unwrap_or (root_reach (nodes_of t) o) None) (found 1 (rules_of t) i t.risen lt))

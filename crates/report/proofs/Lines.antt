@@ -1,40 +1,53 @@
--- Lines, found by going through the text.
-use Rattle.std.proofs.Common.{◌≡◌, ℕ, zero, suc, ◌+◌, ◌-◌, ◌<◌, ◌≤◌, List, [], ◌∷◌, length, get_or, drop, refl, ap, ◌∙◌, arith}
-use Rattle.std.proofs.lemmas.List.{at_drop_more, at_drop_all}
-use Rattle.std.proofs.lemmas.Bool.{cond-true, cond-false, eq-eqb, ne_eqb}
-use Rattle.report.specs.Lines.{line_length, first_line, rest_lines, line_after}
+-- The lines of a text are what `split` gives.
+use Rattle.std.proofs.Common.{◌≡◌, ℕ, zero, suc, ◌+◌, ◌-◌, Bool, eqb, List, [], ◌∷◌, get_or, drop, take, Some, None, Option, sym, refl, ap, ◌∙◌, ⊎_elim, arith}
+use Rattle.std.proofs.Common.{Bor}
+use Rattle.std.specs.List.{slice_get, slice_split, onto_first}
+use Rattle.std.specs.Option.{option_map, unwrap_or}
+use Rattle.std.proofs.lemmas.Bool.{cond-true, cond-false, cases_Bool}
+use Rattle.std.proofs.lemmas.List.Splits.{slice_split-cons_yes, slice_split-cons_no}
+use Rattle.std.proofs.lemmas.Option.{unwrap_or-slice_get}
+use Rattle.report.specs.Lines.{line_length, line_after, line_of}
 
-module _ (text : List ℕ) (i : ℕ) (passed : i + line_length (drop i text) ≡ line_length text) where
-  pub ends_here : i < length text → get_or text i 0 ≡ 10 → i ≡ line_length text
-  ends_here lt is =
-      let z : line_length (drop i text) ≡ 0 = at_drop_more line_length text i 0 lt ∙ cond-true _ _ _ (eq-eqb _ _ is) in
-      omega arith
+abbrev newline : ℕ → Bool
+newline b = eqb b 10
 
-  pub ends_later : i < length text → (get_or text i 0 ≡ 10 → ⊥) → (i + 1) + line_length (drop (i + 1) text) ≡ line_length text
-  ends_later lt other =
-      let s : line_length (drop i text) ≡ suc (line_length (drop (i + 1) text)) = at_drop_more line_length text i 0 lt ∙ cond-false _ _ _ (ne_eqb _ _ other) in
-      omega arith
-
-  pub never_ends : length text ≤ i → i ≡ line_length text
-  never_ends le =
-      let z : line_length (drop i text) ≡ 0 = at_drop_all line_length text i le in
-      omega arith
-
--- one line fewer before the one that is looked for
-pub line_past : (left : ℕ) (text : List ℕ) → 1 < left → line_after (left - 1) text ≡ line_after (left - 1 - 1) (rest_lines text)
-line_past left text more =
-    let n : left - 1 ≡ suc (left - 1 - 1) = omega arith in
-    ap (λ k. line_after k text) n
-
-pub line_here : (left : ℕ) (text : List ℕ) → left ≤ 1 → line_after (left - 1) text ≡ first_line text
-line_here left text le =
-    let n : left - 1 ≡ 0 = omega arith in
-    ap (λ k. line_after k text) n
-
-none_after : (n : ℕ) → line_after n [] ≡ []
+none_after : (n : ℕ) → [] ≡ line_after n []
 none_after zero = refl
 none_after (suc n) = none_after n
 
-pub line_none : (n : ℕ) (text : List ℕ) → length text ≡ 0 → line_after n text ≡ first_line text
-line_none n [] e = none_after n
-line_none n (b ∷ bs) e = absurd (omega arith)
+first_at : (b : ℕ) (parts : List (List ℕ)) → get_or (onto_first b parts) 0 [] ≡ b ∷ get_or parts 0 []
+first_at b [] = refl
+first_at b (part ∷ parts) = refl
+
+later_at : (b : ℕ) (parts : List (List ℕ)) (n : ℕ) → get_or (onto_first b parts) (suc n) [] ≡ get_or parts (suc n) []
+later_at b [] n = refl
+later_at b (part ∷ parts) n = refl
+
+-- one more byte before the lines of a text
+module _ (b : ℕ) (bs : List ℕ) where
+  after_newline : (n : ℕ) → line_length (b ∷ bs) ≡ 0 → ((m : ℕ) → get_or (slice_split newline bs) m [] ≡ line_after m bs) → get_or ([] ∷ slice_split newline bs) n [] ≡ line_after n (b ∷ bs)
+  after_newline zero e lines = ap (λ k. take k (b ∷ bs)) (sym e)
+  after_newline (suc n) e lines = lines n ∙ ap (λ k. line_after n (drop (k + 1) (b ∷ bs))) (sym e)
+
+  after_other : (n : ℕ) → line_length (b ∷ bs) ≡ suc (line_length bs) → ((m : ℕ) → get_or (slice_split newline bs) m [] ≡ line_after m bs) → get_or (onto_first b (slice_split newline bs)) n [] ≡ line_after n (b ∷ bs)
+  after_other zero e lines = first_at b (slice_split newline bs) ∙ ap (λ l. b ∷ l) (lines 0) ∙ ap (λ k. take k (b ∷ bs)) (sym e)
+  after_other (suc n) e lines =
+      let k : suc (line_length bs + 1) ≡ line_length (b ∷ bs) + 1 = omega (arith, e) in
+      later_at b (slice_split newline bs) n ∙ lines (suc n) ∙ ap (λ k. line_after n (drop k (b ∷ bs))) k
+
+line_at : (text : List ℕ) (n : ℕ) → get_or (slice_split newline text) n [] ≡ line_after n text
+line_at [] zero = refl
+line_at [] (suc n) = none_after n
+line_at (b ∷ bs) n =
+    ⊎_elim
+    (λ yes. ap (λ l. get_or l n []) (slice_split-cons_yes newline b bs yes) ∙ after_newline b bs n (cond-true _ _ _ yes) (line_at bs))
+    (λ no. ap (λ l. get_or l n []) (slice_split-cons_no newline b bs no) ∙ after_other b bs n (cond-false _ _ _ no) (line_at bs))
+    (cases_Bool (newline b))
+
+found : (r : Option (Bor (List ℕ))) (d : Bor (List ℕ)) → d.now ≡ [] → (unwrap_or r d).now ≡ unwrap_or (option_map (λ x. x.now) r) []
+found (Some x) d e = refl
+found None d e = e
+
+pub line_found : (text : List ℕ) (line n : ℕ) (r : Option (Bor (List ℕ))) (d : Bor (List ℕ)) → d.now ≡ [] → n ≡ line - 1 → option_map (λ x. x.now) r ≡ slice_get (slice_split (λ b. eqb b 10) text) n → (unwrap_or r d).now ≡ line_of text line
+line_found text line n r d none is lines =
+    found r d none ∙ ap (λ o. unwrap_or o []) lines ∙ unwrap_or-slice_get (slice_split newline text) n [] ∙ line_at text n ∙ ap (λ k. line_after k text) is

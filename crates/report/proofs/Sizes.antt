@@ -1,9 +1,9 @@
 -- The formulas of a rule are the nodes after those of the rules before it, up to its root.
-use Rattle.std.proofs.Common.{◌≡◌, ℕ, zero, suc, ◌+◌, ◌-◌, ◌<◌, Bool, true, ◌&&◌, eqb, List, [], ◌∷◌, ◌++◌, map, length, get_or, drop, sym, refl, ap, ◌∙◌, subst, ⊎_elim, arith, length-append}
-use mathlib.Core.HLevel.{⊥_prop}
+use Rattle.std.proofs.Common.{◌≡◌, ℕ, zero, suc, ◌+◌, ◌-◌, ◌<◌, Bool, true, ◌&&◌, eqb, List, [], ◌∷◌, ◌++◌, map, length, get_or, drop, sym, refl, ap, ◌∙◌, subst, arith, length-append}
 use mathlib.Core.Logic.{∥∥₁_elim}
+use Rattle.std.proofs.Math.Bool.{Bool-set}
 use Rattle.std.proofs.lemmas.List.{get_or_append_left, get_or_at, map-append, at_drop_more}
-use Rattle.std.proofs.lemmas.Bool.{and_parts, eq-eqb, eqb-true, cases_Bool}
+use Rattle.std.proofs.lemmas.Bool.{and_parts, eq-eqb, eqb-true}
 use Rattle.syntax.specs.declared.Node.{Node}
 use Rattle.syntax.specs.declared.Node.TheVariants as node
 use Rattle.syntax.specs.declared.Query.TheVariants as query
@@ -139,10 +139,7 @@ formed_counted : (nodes : List Node) (rs : List Rule) → Formed (map entry_of n
 formed_counted nodes rs f = ap (counted nodes 0) f.are_rules ∙ lines_counted nodes [] f.lines f.are_nodes
 
 pub table_counted : (t : Table) → counted (nodes_of t) 0 (rules_of t) ≡ true
-table_counted t =
-    ⊎_elim (λ e. e)
-    (λ n. absurd (∥∥₁_elim t.formed ⊥_prop (λ f. let e : counted (nodes_of t) 0 (rules_of t) ≡ true = formed_counted (nodes_of t) (rules_of t) f in let z : ◌≡◌ {A = ℕ} 0 1 = cc in omega arith)))
-    (cases_Bool (counted (nodes_of t) 0 (rules_of t)))
+table_counted t = ∥∥₁_elim t.formed (Bool-set _ _) (formed_counted (nodes_of t) (rules_of t))
 
 -- the next rule, and those after it
 module _ (nodes : List Node) (before : ℕ) (rs : List Rule) (i : ℕ) (d r : Rule) (is : r ≡ get_or rs i d) (lt : i < length rs) (h : counted nodes before (drop i rs) ≡ true) where

@@ -1,7 +1,7 @@
 -- What the rule checker prints.
 use Rattle.std.specs.Prelude.{ℕ, List, [], ◌∷◌, ◌++◌, Some, None, codes, decimal, Option}
 use Rattle.grammar.specs.declared.fault.ReadFault.{ReadFault}
-use Rattle.grammar.specs.Faults.{fault_number}
+use Rattle.grammar.specs.Faults.{fault_text}
 use Rattle.grammar.specs.TableText.{rule_text, texts}
 use Rattle.syntax.specs.declared.Rule.{Rule}
 use Rattle.syntax.specs.Formula.{reach}
@@ -14,8 +14,7 @@ use Rattle.report.specs.Excerpts.{excerpt}
 
 -- the fault's number, line and byte
 abbrev pub fault_line : ReadFault → List ℕ
-fault_line f =
-    codes "(fault " ++ (decimal (fault_number f.kind) ++ (codes " " ++ (decimal f.place.line ++ (codes " " ++ (decimal f.place.byte ++ (codes ")" ++ (10 ∷ [])))))))
+fault_line f = codes "(fault " ++ (fault_text f ++ (codes ")" ++ (10 ∷ [])))
 
 -- and the faulty line with a mark under the place
 abbrev pub fault_report : List ℕ → ReadFault → List ℕ

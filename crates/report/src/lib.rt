@@ -1,7 +1,6 @@
 //! What the rule checker prints.
 #![tactic(auto)]
 
-mod append;
 mod excerpt;
 pub mod fault;
 pub mod line;

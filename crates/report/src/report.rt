@@ -13,19 +13,13 @@ pub fn report(heap: Global, text: &[u8]) -> Result<Report, AllocError>
     ensures { IfOk result (Reports text.now) }
 {
     match Table::new(heap)?.read(text) {
-        Ok(table) => {
-            let text = table_report(heap, &table)?;
-            Ok(Report {
-                text,
-                accepted: true,
-            })
-        }
-        Err(fault) => {
-            let text = fault_report(heap, text, fault)?;
-            Ok(Report {
-                text,
-                accepted: false,
-            })
-        }
+        Ok(table) => Ok(Report {
+            text: table_report(heap, &table)?,
+            accepted: true,
+        }),
+        Err(fault) => Ok(Report {
+            text: fault_report(heap, text, fault)?,
+            accepted: false,
+        }),
     }
 }

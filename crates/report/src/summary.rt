@@ -1,30 +1,32 @@
 //! The line under a rule.
-ghost use Rattle.report.specs.Appends.{Added};
+ghost use Rattle.std.specs.Prelude.{◌≡◌, IfOk, Some, string_bytes};
 ghost use Rattle.report.specs.Reports.{reach_text, summary};
 
-use crate::append::{push_number, push_text};
 use std::alloc::{AllocError, Global};
+use std::fmt;
 
-fn push_reach(heap: Global, out: &mut Vec<u8>, reach: Option<u64>) -> Result<(), AllocError>
-    ensures { Added result out.old.items out.new.items (reach_text reach) }
-{
-    match reach {
-        Some(distance) => push_number(heap, out, distance),
-        None => push_text(out, b"none"),
+/// How far a rule reaches.
+#[derive(Clone, Copy)]
+struct Reach(Option<u64>);
+
+impl fmt::Display for Reach {
+    ghost output = { λ r. Some (reach_text r.0) };
+
+    fn fmt<W: fmt::Write>(&self, f: &mut fmt::Formatter<W>) -> fmt::Result {
+        match self.0 {
+            Some(distance) => write!(f, "{distance}"),
+            None => write!(f, "none"),
+        }
     }
 }
 
-pub(crate) fn push_summary(
+pub(crate) fn summary(
     heap: Global,
-    out: &mut Vec<u8>,
     formulas: usize,
     reach: Option<u64>,
-) -> Result<(), AllocError>
-    ensures { Added result out.old.items out.new.items (summary formulas reach) }
+) -> Result<String, AllocError>
+    ensures { IfOk result (λ line. string_bytes line ≡ summary formulas reach) }
 {
-    push_text(out, b"  ")?;
-    push_number(heap, out, formulas as u64)?;
-    push_text(out, b" formulas, reach ")?;
-    push_reach(heap, out, reach)?;
-    push_text(out, b"\n")
+    let reach = Reach(reach);
+    format!(in heap; "  {formulas} formulas, reach {reach}\n")
 }

@@ -10,7 +10,7 @@ mod outcome;
 use crate::case::Case;
 use crate::escape::unescape;
 use crate::outcome::outcome;
-use anyhow::anyhow;
+use anyhow::{bail, ensure};
 use report::report::report;
 use std::alloc::Global;
 use std::io::Write;
@@ -37,7 +37,7 @@ fn run(rt: &HostRuntime) -> anyhow::Result<()> {
     for line in rt.lines(heap) {
         let line = line?;
         let Some(case) = Case::parse(line.as_str()) else {
-            return Err(anyhow!("a line that is no case"));
+            bail!("a line that is no case");
         };
         cases = cases.saturating_add(1);
         if !try_case(rt, heap, case)? {
@@ -45,9 +45,7 @@ fn run(rt: &HostRuntime) -> anyhow::Result<()> {
         }
     }
     println!(rt; "{cases} cases, {wrong} wrong")?;
-    if wrong > 0 {
-        return Err(anyhow!("a case came out wrong"));
-    }
+    ensure!(wrong == 0, "a case came out wrong");
     Ok(())
 }
 

@@ -7,9 +7,7 @@ use std::process::ExitCode;
 use std::{env, fs};
 
 fn input(rt: &HostRuntime) -> anyhow::Result<Vec<u8>> {
-    let mut args = env::args(rt)?;
-    let _program = args.next();
-    if let Some(path) = args.next() {
+    if let Some(path) = env::args(rt)?.nth(1) {
         return Ok(fs::read(rt, path.as_str())?);
     }
     let mut text = Vec::new(rt.alloc());

@@ -1,87 +1,85 @@
--- A node's text, put part by part.
-use Rattle.std.proofs.Common.{◌≡◌, ℕ, zero, suc, ◌+◌, ◌<◌, ◌≤◌, Bool, true, ◌&&◌, ltb, List, [], ◌∷◌, ◌++◌, map, length, get_or, codes, sym, refl, ap, ◌∙◌, append_assoc, append-nil, arith, lt-ltb}
-use Rattle.std.proofs.lemmas.List.{length-map}
+-- The texts of nodes and rules, from those of their parts.
+use mathlib.Core.Logic.{∥∥₁_elim, ∥∥₁_map}
+use Rattle.std.proofs.Common.{◌≡◌, ℕ, zero, suc, ◌+◌, ◌<◌, max, true, ltb, List, [], ◌∷◌, ◌++◌, map, length, get_or, codes, sym, refl, ap, ◌∙◌, append_assoc, arith, ltb-true, rules}
+use Rattle.std.specs.List.{flat_map}
+use Rattle.std.proofs.Math.Bool.{Bool-set}
+use Rattle.std.proofs.lemmas.Bool.{and_parts}
+use Rattle.std.proofs.lemmas.List.{length-map, get_or-map}
+use Rattle.std.proofs.lemmas.List.Concat.{flat_map-cons}
 use Rattle.syntax.specs.declared.Node.{Node}
-use Rattle.syntax.specs.declared.Node.TheVariants as node
-use Rattle.syntax.specs.declared.Query.TheVariants as query
-use Rattle.syntax.specs.Nodes.{Ordered, place}
+use Rattle.syntax.specs.declared.Node.TheVariants.{True}
+use Rattle.syntax.specs.declared.Rule.{Rule}
+use Rattle.syntax.specs.Nodes.{rooted}
+use Rattle.items.specs.Tokens.{word_text}
 use Rattle.grammar.specs.Entries.{Entry, entry_of}
 use Rattle.grammar.specs.Ordered.{all_below, ordered}
-use Rattle.items.specs.Tokens.{word_text}
-use Rattle.grammar.specs.TableText.{arg_text, spaced, entry_text, node_text, texts}
+use Rattle.grammar.specs.TableText.{arg_text, spaced, entry_text, node_text, rule_text, rules_text, texts}
+use Rattle.grammar.proofs.OrderedNodes.{formed_ordered, text_at}
+use Rattle.grammar.proofs.TableText.{table_back}
+use Rattle.rules.specs.declared.table.Table.{Table}
+use Rattle.rules.specs.Tables.{nodes_of, rules_of, entries_of}
+use Rattle.writer.specs.Writing.{ReadAgain, rule_texts}
 use Rattle.writer.specs.Parts.{head_text}
-use Rattle.grammar.proofs.OrderedNodes.{text_at}
-use Rattle.writer.specs.Places.{Puts}
-use Rattle.writer.proofs.Places.{then_puts, puts_same}
+use Rattle.writer.specs.Places.{Gains}
+use Rattle.writer.specs.declared.sink.Sink.{Sink}
+use Rattle.writer.proofs.Places.{then_gains, gains_same}
 
-and_true : (a b : Bool) → a ≡ true → b ≡ true → (a && b) ≡ true
-and_true a b p q = simp (p, q)
+-- texts one after another
+pub spaced_is : {A : Type 0} (text : A → List ℕ) (xs : List A) → flat_map (λ x. 32 ∷ text x) xs ≡ spaced (map text xs)
+spaced_is text [] = refl
+spaced_is text (x ∷ xs) = flat_map-cons (λ y. 32 ∷ text y) x xs ∙ ap (λ t. 32 ∷ (text x ++ t)) (spaced_is text xs)
 
-one_under : (a k : ℕ) → a < k → all_below k (a ∷ []) ≡ true
-one_under a k h = and_true (ltb a k) true (lt-ltb a k h) refl
+pub rules_are : (ts : List (List ℕ)) (rs : List Rule) → flat_map (rule_text ts) rs ≡ rules_text ts rs
+rules_are ts [] = refl
+rules_are ts (r ∷ rs) = flat_map-cons (rule_text ts) r rs ∙ ap (λ t. rule_text ts r ++ t) (rules_are ts rs)
 
-two_under : (a b k : ℕ) → a < k → b < k → all_below k (a ∷ b ∷ []) ≡ true
-two_under a b k h j = and_true (ltb a k) (ltb b k && true) (lt-ltb a k h) (one_under b k j)
+-- each rule's node is one of the nodes
+pub root_at : (n : ℕ) (rs : List Rule) (i : ℕ) (d : Rule) → rooted n rs ≡ true → i < length rs → (get_or rs i d).root < n
+root_at n [] i d h lt = absurd (omega arith)
+root_at n (r ∷ rs) zero d h lt = ltb-true r.root n (and_parts (ltb r.root n) (rooted n rs) h).0
+root_at n (r ∷ rs) (suc i) d h lt = root_at n rs i d (and_parts (ltb r.root n) (rooted n rs) h).1 (omega arith)
 
--- the operands of a node that can stand at a place are before that place
-under_place : (x : Node) (k : ℕ) → place x ≤ k → all_below k (entry_of x).operands ≡ true
-under_place node.True k h = refl
-under_place (node.Query (query.Some a b c)) k h = refl
-under_place (node.Query (query.Every a b c)) k h = refl
-under_place (node.Query (query.Fact a b c)) k h = refl
-under_place (node.Query (query.Number a b c)) k h = refl
-under_place (node.Query (query.Refer a b)) k h = refl
-under_place (node.Query (query.Level a b)) k h = refl
-under_place (node.Not a) k h = one_under a k (omega arith)
-under_place (node.And a b) k h = two_under a b k (omega arith) (omega arith)
-under_place (node.Or a b) k h = two_under a b k (omega arith) (omega arith)
-under_place (node.Implies a b) k h = two_under a b k (omega arith) (omega arith)
-under_place (node.Next w a) k h = one_under a k (omega arith)
-under_place (node.AllNext w a) k h = one_under a k (omega arith)
-under_place (node.Sometime w a) k h = one_under a k (omega arith)
-under_place (node.Always w a) k h = one_under a k (omega arith)
-under_place (node.Until w a b) k h = two_under a b k (omega arith) (omega arith)
-under_place (node.Previous w a) k h = one_under a k (omega arith)
-under_place (node.Once w a) k h = one_under a k (omega arith)
-under_place (node.SoFar w a) k h = one_under a k (omega arith)
-under_place (node.Since w a b) k h = two_under a b k (omega arith) (omega arith)
+pub rule_root : (t : Table) (rs : List Rule) (i : ℕ) (d r : Rule) → rs ≡ rules_of t → i < length rs → r ≡ get_or rs i d → r.root < length (nodes_of t)
+rule_root t rs i d r same lt is =
+    let roots : rooted (length (nodes_of t)) (rules_of t) ≡ true = search rules in
+    rw is (rw same (root_at (length (nodes_of t)) (rules_of t) i d roots (rw same at lt)))
 
-ordered_test : (k : ℕ) (xs : List Node) → ((m : ℕ) → m < length xs → place (get_or xs m node.True) ≤ k + m) → ordered k (map entry_of xs) ≡ true
-ordered_test k [] h = refl
-ordered_test k (x ∷ xs) h =
-    let first : place x ≤ k + 0 = h 0 (omega arith) in
-    and_true _ _ (under_place x k (omega arith)) (ordered_test (suc k) xs (λ m lt. let r : place (get_or xs m node.True) ≤ k + suc m = h (suc m) (omega arith) in omega arith))
+pub text_of_rule : (t : Table) (rs : List Rule) (i : ℕ) (d r : Rule) → rs ≡ rules_of t → i < length rs → r ≡ get_or rs i d → rule_text (texts [] (entries_of t)) r ≡ get_or (rule_texts t) i []
+text_of_rule t rs i d r same lt is = rw is (rw same (sym (get_or-map (rule_text (texts [] (entries_of t))) (rules_of t) i d [] (rw same at lt))))
 
-get_d_map : (ns : List Node) (n : ℕ) (d : Node) → get_or (map entry_of ns) n (entry_of d) ≡ entry_of (get_or ns n d)
-get_d_map [] n d = refl
-get_d_map (x ∷ ns) zero d = refl
-get_d_map (x ∷ ns) (suc n) d = get_d_map ns n d
+-- the least number past all operands
+abbrev pub above : List ℕ → ℕ
+above [] = 0
+above (o ∷ os) = max (o + 1) (above os)
 
-entry_split : (e : Entry) (os : List (List ℕ)) → entry_text e os ≡ head_text e ++ (spaced os ++ codes ")")
-entry_split e os = ap (λ x. codes "(" ++ x) (sym (append_assoc (word_text e.word) (spaced (map arg_text e.args)) (spaced os ++ codes ")")))
+pub under_above : (os : List ℕ) (i : ℕ) → i < length os → get_or os i 0 < above os
+under_above [] i lt = absurd (omega arith)
+under_above (o ∷ os) zero lt = omega arith
+under_above (o ∷ os) (suc i) lt = omega (arith, under_above os i (omega arith))
 
-module _ (ns : List Node) (n : ℕ) (d : Node) (ord : Ordered ns) (lt : n < length ns) where
-  abbrev T : List (List ℕ)
-  T = texts [] (map entry_of ns)
+pub operand_below : (n : ℕ) (os : List ℕ) (i : ℕ) → all_below n os ≡ true → i < length os → get_or os i 0 < n
+operand_below n [] i h lt = absurd (omega arith)
+operand_below n (o ∷ os) zero h lt = ltb-true o n (and_parts (ltb o n) (all_below n os) h).0
+operand_below n (o ∷ os) (suc i) h lt = operand_below n os i (and_parts (ltb o n) (all_below n os) h).1 (omega arith)
 
-  text : (os : List ℕ) → os ≡ (entry_of (get_or ns n d)).operands → head_text (entry_of (get_or ns n d)) ++ (spaced (map (λ m. get_or T m []) os) ++ codes ")") ≡ get_or T n []
-  text os e =
-      let test : ordered 0 (map entry_of ns) ≡ true = ordered_test 0 ns (λ m l. let p : place (get_or ns m node.True) ≤ m = ord m l in omega arith) in
-      let long : n < length (map entry_of ns) = omega (arith, length-map ns entry_of) in
-      sym (text_at (map entry_of ns) n (entry_of d) test long ∙ ap (node_text T) (get_d_map ns n d) ∙ entry_split (entry_of (get_or ns n d)) _ ∙ ap (λ x. head_text (entry_of (get_or ns n d)) ++ (spaced (map (λ m. get_or T m []) x) ++ codes ")")) (sym e))
+-- a node's text is its head, the texts of its operands, and a bracket
+entry_split : (e : Entry) (os : List (List ℕ)) → head_text e ++ (spaced os ++ codes ")") ≡ entry_text e os
+entry_split e os = ap (λ x. codes "(" ++ x) (append_assoc (word_text e.word) (spaced (map arg_text e.args)) (spaced os ++ codes ")"))
 
-  module _ {a b : List ℕ} {i j : ℕ} (head : Puts a i b j (head_text (entry_of (get_or ns n d)))) where
-    pub zero_puts : {c : List ℕ} {k : ℕ} → [] ≡ (entry_of (get_or ns n d)).operands → Puts b j c k (codes ")") → Puts a i c k (get_or T n [])
-    zero_puts e close = puts_same (text [] e) (then_puts head close)
+module _ (t : Table) where
+  table_ordered : ordered 0 (entries_of t) ≡ true
+  table_ordered = ∥∥₁_elim t.formed (Bool-set _ _) (formed_ordered (entries_of t) (rules_of t))
 
-    pub one_puts : {c u v : List ℕ} {k l m : ℕ} (o : ℕ) → o ∷ [] ≡ (entry_of (get_or ns n d)).operands → Puts b j c k (codes " ") → Puts c k u l (get_or T o []) → Puts u l v m (codes ")") → Puts a i v m (get_or T n [])
-    one_puts o e space first close =
-        let t = get_or T o [] in
-        puts_same (ap (λ x. head_text (entry_of (get_or ns n d)) ++ (32 ∷ (x ++ codes ")"))) (sym (append-nil t)) ∙ text (o ∷ []) e) (then_puts head (then_puts space (then_puts first close)))
+  pub node_gains : {a b c d m : Sink} (n : ℕ) (x : Node) (os : List ℕ) → n < length (nodes_of t) → x ≡ get_or (nodes_of t) n True → os ≡ (entry_of x).operands → Gains a b (head_text (entry_of x)) → Gains b c (spaced (map (λ o. get_or (texts [] (entries_of t)) o []) os)) → m ≡ c → Gains m d (codes ")") → Gains a d (get_or (texts [] (entries_of t)) n [])
+  node_gains n x os lt is operands head below at close =
+      let T = texts [] (entries_of t) in
+      let e = entry_of x in
+      let long : n < length (entries_of t) = omega (arith, length-map (nodes_of t) entry_of) in
+      let here : get_or (entries_of t) n e ≡ e = get_or-map entry_of (nodes_of t) n True e lt ∙ ap entry_of (sym is) in
+      let text : get_or T n [] ≡ node_text T e = text_at (entries_of t) n e table_ordered long ∙ ap (node_text T) here in
+      let split : head_text e ++ (spaced (map (λ o. get_or T o []) os) ++ codes ")") ≡ get_or T n [] = ap (λ l. head_text e ++ (spaced (map (λ o. get_or T o []) l) ++ codes ")")) operands ∙ entry_split e (map (λ o. get_or T o []) e.operands) ∙ sym text in
+      gains_same split (then_gains head (then_gains below (rw at at close)))
 
-    pub two_puts : {c u v w x : List ℕ} {k l m p q : ℕ} (o r : ℕ) → o ∷ r ∷ [] ≡ (entry_of (get_or ns n d)).operands → Puts b j c k (codes " ") → Puts c k u l (get_or T o []) → Puts u l v m (codes " ") → Puts v m w p (get_or T r []) → Puts w p x q (codes ")") → Puts a i x q (get_or T n [])
-    two_puts o r e space first gap second close =
-        let t = get_or T o [] in
-        let s = get_or T r [] in
-        let same : t ++ (32 ∷ (s ++ codes ")")) ≡ (t ++ (32 ∷ (s ++ []))) ++ codes ")" = ap (λ z. t ++ (32 ∷ (z ++ codes ")"))) (sym (append-nil s)) ∙ sym (append_assoc t (32 ∷ (s ++ [])) (codes ")")) in
-        puts_same (ap (λ z. head_text (entry_of (get_or ns n d)) ++ (32 ∷ z)) same ∙ text (o ∷ r ∷ []) e) (then_puts head (then_puts space (then_puts first (then_puts gap (then_puts second close)))))
+  -- the text of a table with a rule is read as that table
+  pub read_again : ReadAgain t
+  read_again some = ∥∥₁_map t.formed (λ f. table_back (entries_of t) (rules_of t) f some)

@@ -2,11 +2,11 @@
 ghost use Rattle.std.specs.Prelude.{◌≡◌};
 ghost use Rattle.writer.specs.Faults.{fault_number};
 
-/// The layer is the writer: this type.
+/// The layer is the writer: this type. A refusal's value is its number.
 #[derive(Clone, Copy, PartialEq, Eq, Debug)]
 pub enum WriteFault {
     /// The buffer is shorter than the text.
-    TooShort,
+    TooShort = 27,
 }
 
 impl WriteFault {
@@ -14,8 +14,6 @@ impl WriteFault {
     pub fn number(self) -> u8
         ensures { result ≡ fault_number self }
     {
-        match self {
-            WriteFault::TooShort => 27,
-        }
+        self as u8
     }
 }

@@ -4,8 +4,8 @@
 mod arguments;
 pub mod fault;
 mod nodes;
-mod parts;
-mod place;
 pub mod rule;
 mod rule_lines;
+mod sink;
+mod word;
 pub mod write;

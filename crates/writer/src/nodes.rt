@@ -1,44 +1,62 @@
 //! Puts the text of a node.
-ghost use Rattle.std.specs.Prelude.{◌<◌, [], map, length, slice_index_or};
-ghost use Rattle.syntax.specs.Nodes.{Ordered};
+ghost use Rattle.std.specs.Prelude.{◌≡◌, ◌<◌, true, [], map, length, slice_index_or};
 ghost use Rattle.grammar.specs.Entries.{entry_of};
-ghost use Rattle.grammar.specs.TableText.{texts};
+ghost use Rattle.grammar.specs.Ordered.{all_below};
+ghost use Rattle.grammar.specs.TableText.{spaced, texts};
+ghost use Rattle.rules.specs.Tables.{nodes_of, entries_of};
 ghost use Rattle.writer.specs.Parts.{head_text};
-ghost use Rattle.writer.specs.Places.{Puts};
+ghost use Rattle.writer.specs.Places.{Gains};
 
-use crate::arguments::put_arguments;
-use crate::parts::{Operands, operands_of, word_of};
-use crate::place::put;
+use crate::sink::Sink;
+use crate::word::word_of;
+use rules::table::Table;
 use syntax::Node;
 
-fn put_head(out: &mut [u8], at: usize, node: Node) -> usize
-    ensures { Puts out.old at out.new result (head_text (entry_of node)) }
-{
-    let word = put(out, at, b"(");
-    let numbers = put(out, word, word_of(node));
-    put_arguments(out, numbers, node)
-}
+impl Sink<'_> {
+    fn put_head(&mut self, node: Node)
+        ensures { Gains self.old self.new (head_text (entry_of node)) }
+    {
+        self.put(b"(");
+        self.put(word_of(node));
+        self.put_arguments(node);
+    }
 
-pub(crate) fn put_node(out: &mut [u8], at: usize, nodes: &[Node], n: usize) -> usize
-    requires ordered { Ordered nodes.now }
-    requires within { n < length nodes.now }
-    ensures { Puts out.old at out.new result (slice_index_or (texts [] (map entry_of nodes.now)) n []) }
-{
-    let node = nodes[n];
-    let head = put_head(out, at, node);
-    match operands_of(node) {
-        Operands::Zero => put(out, head, b")"),
-        Operands::One(a) => {
-            let first = put(out, head, b" ");
-            let close = put_node(out, first, nodes, a);
-            put(out, close, b")")
+    #[cycle(node)]
+    pub(crate) fn put_node(&mut self, table: &Table, n: usize)
+        requires { n < length (nodes_of table.now) }
+        ensures { Gains self.old self.new (slice_index_or (texts [] (entries_of table.now)) n []) }
+    {
+        let node = table.nodes()[n];
+        self.put_head(node);
+        match node {
+            Node::True | Node::Query(_) => {}
+            Node::Not(a)
+            | Node::Next(_, a)
+            | Node::AllNext(_, a)
+            | Node::Sometime(_, a)
+            | Node::Always(_, a)
+            | Node::Previous(_, a)
+            | Node::Once(_, a)
+            | Node::SoFar(_, a) => self.put_operands(table, &[a]),
+            Node::And(a, b)
+            | Node::Or(a, b)
+            | Node::Implies(a, b)
+            | Node::Until(_, a, b)
+            | Node::Since(_, a, b) => self.put_operands(table, &[a, b]),
         }
-        Operands::Two(a, b) => {
-            let first = put(out, head, b" ");
-            let space = put_node(out, first, nodes, a);
-            let second = put(out, space, b" ");
-            let close = put_node(out, second, nodes, b);
-            put(out, close, b")")
+        self.put(b")");
+    }
+
+    /// Each after a space.
+    #[cycle(node)]
+    fn put_operands(&mut self, table: &Table, operands: &[usize])
+        requires { all_below (length (nodes_of table.now)) operands.now ≡ true }
+        ensures { Gains self.old self.new
+            (spaced (map (λ n. slice_index_or (texts [] (entries_of table.now)) n []) operands.now)) }
+    {
+        for operand in operands {
+            self.put(b" ");
+            self.put_node(table, *operand);
         }
     }
 }
