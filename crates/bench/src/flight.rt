@@ -8,7 +8,7 @@ use store::{Fact, Store};
 use truth::Three;
 
 /// The verdicts that were given, and the time that commits, the first 256 of them, and questions took, in nanoseconds.
-#[derive(Clone, Copy)]
+#[derive(Clone, Copy, Default)]
 pub struct Flight {
     pub no: u32,
     pub undecided: u32,
@@ -56,12 +56,13 @@ fn change<S: Store>(session: &mut Session<'_, S>, generator: &mut Generator, sta
 fn ask_all<S: Store>(session: &Session<'_, S>, states: usize, flight: &mut Flight) {
     for rule in 1..17 {
         for state in 0..states {
-            match session.verdict(rule, state) {
-                Ok(Three::False) => flight.no = flight.no.wrapping_add(1),
-                Ok(Three::Undecided) => flight.undecided = flight.undecided.wrapping_add(1),
-                Ok(Three::True) => flight.yes = flight.yes.wrapping_add(1),
-                Err(_) => (),
-            }
+            let count = match session.verdict(rule, state) {
+                Ok(Three::False) => &mut flight.no,
+                Ok(Three::Undecided) => &mut flight.undecided,
+                Ok(Three::True) => &mut flight.yes,
+                Err(_) => continue,
+            };
+            *count = count.wrapping_add(1);
         }
     }
 }
@@ -69,14 +70,7 @@ fn ask_all<S: Store>(session: &Session<'_, S>, states: usize, flight: &mut Fligh
 /// 512 commits, and the questions after each.
 pub fn fly<S: Store>(rt: &HostRuntime, session: &mut Session<'_, S>) -> io::Result<Flight> {
     let mut generator = Generator::new(2);
-    let mut flight = Flight {
-        no: 0,
-        undecided: 0,
-        yes: 0,
-        committing: 0,
-        first_half: 0,
-        asking: 0,
-    };
+    let mut flight = Flight::default();
     let mut stamp = 0;
     for state in 0..512 {
         let start = Instant::now(rt)?;

@@ -1,40 +1,31 @@
 //! A record of 512 states that grows.
-use crate::judged::Record;
+use anyhow::bail;
 use eval::evaluated::EvaluatedRecord;
 use eval::room::RecordRoom;
+use recordtext::state::RecordText;
 use rules::table::Table;
-use std::alloc::{AllocError, Global};
+use std::alloc::Global;
 use truth::Three;
 
-/// The record state by state, and then finished; none where a state is refused.
+/// The record state by state, and then finished.
 pub fn grown<'t>(
     heap: Global,
     table: &'t Table,
-    record: &Record,
-) -> Result<Option<EvaluatedRecord<'t>>, AllocError> {
+    record: &RecordText,
+) -> anyhow::Result<EvaluatedRecord<'t>> {
     let room = RecordRoom::new(heap)?;
     let mut grown = EvaluatedRecord::new(table, room);
     for (stamp, row) in record.stamps.iter().zip(record.rows.iter()) {
-        if grown.push(*stamp, *row).is_err() {
-            return Ok(None);
-        }
+        let Ok(()) = grown.push(*stamp, *row) else {
+            bail!("a state is refused");
+        };
     }
     grown.finish();
-    Ok(Some(grown))
+    Ok(grown)
 }
 
-/// How often a rule from 1 to 16 is true at a state of the record.
-pub fn count_true(grown: &EvaluatedRecord<'_>) -> u32 {
-    let mut yes: u32 = 0;
-    for rule in 1..17 {
-        let Some(node) = grown.table().root(rule) else {
-            continue;
-        };
-        for state in 0..512 {
-            if let Some(Three::True) = grown.value_at(node, state) {
-                yes = yes.wrapping_add(1);
-            }
-        }
-    }
-    yes
+/// Whether the rule is true at the state of the record.
+pub fn is_true(grown: &EvaluatedRecord<'_>, rule: u8, state: usize) -> bool {
+    let root = grown.table().root(rule);
+    root.is_some_and(|node| grown.value_at(node, state) == Some(Three::True))
 }

@@ -2,17 +2,12 @@
 use judging::judged::Judged;
 use judging::workspace::Workspace;
 use random::Generator;
+use recordtext::state::RecordText;
 use rules::table::Table;
 use std::alloc::{AllocError, Global};
 
 /// A record of random rows, its stamps 1 to 7 ticks apart.
-#[derive(Drop)]
-pub struct Record {
-    pub stamps: Vec<u64>,
-    pub rows: Vec<u64>,
-}
-
-pub fn random_record(heap: Global) -> Result<Record, AllocError> {
+pub fn random_record(heap: Global) -> Result<RecordText, AllocError> {
     let mut generator = Generator::new(4);
     let mut stamps = Vec::with_capacity(heap, 512)?;
     let mut rows = Vec::with_capacity(heap, 512)?;
@@ -26,20 +21,23 @@ pub fn random_record(heap: Global) -> Result<Record, AllocError> {
         let low = generator.below(0x8000_0000) as u64;
         rows.push(high.wrapping_mul(0x2_0000_0000) | low)?;
     }
-    Ok(Record { stamps, rows })
+    Ok(RecordText { stamps, rows })
 }
 
-/// How often a rule from 1 to 16 is true at a state of the record.
-fn count_true(judged: &Judged<'_>) -> u32 {
-    let mut yes: u32 = 0;
+/// How often a rule from 1 to 16 holds at a state of the record.
+pub fn count_true<F: Fn(u8, usize) -> bool>(holds: F) -> usize
+    requires { F.IsAlwaysCallable holds }
+{
+    let mut yes: usize = 0;
     for rule in 1..17 {
-        for state in 0..512 {
-            if let Ok(true) = judged.truth(rule, state) {
-                yes = yes.wrapping_add(1);
-            }
-        }
+        let states = (0..512).filter(|state| holds(rule, *state));
+        yes = yes.wrapping_add(states.count());
     }
     yes
+}
+
+fn count_judged(judged: &Judged<'_>) -> usize {
+    count_true(|rule, state| matches!(judged.truth(rule, state), Ok(true)))
 }
 
 /// Judges the record once, and answers how often a rule was true.
@@ -48,9 +46,9 @@ fn judge_once<'a>(
     table: &'a Table,
     stamps: &'a [u64],
     rows: &'a [u64],
-) -> (u32, Workspace) {
+) -> (usize, Workspace) {
     match workspace.judge(table, stamps, rows) {
-        Ok(judged) => (count_true(&judged), judged.close()),
+        Ok(judged) => (count_judged(&judged), judged.close()),
         Err(refusal) => (0, refusal.workspace),
     }
 }
@@ -59,11 +57,11 @@ fn judge_once<'a>(
 pub fn judge_often(
     heap: Global,
     table: &Table,
-    record: &Record,
+    record: &RecordText,
     times: u32,
-) -> Result<u32, AllocError> {
+) -> Result<usize, AllocError> {
     let mut workspace = Workspace::new(heap)?;
-    let mut yes: u32 = 0;
+    let mut yes: usize = 0;
     for _ in 0..times {
         let (found, back) = judge_once(
             workspace,

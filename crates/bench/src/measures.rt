@@ -1,20 +1,23 @@
 //! Each measurement: the work, a line about it, and its time.
 use crate::stores::Work;
 use crate::{flight, growing, judged, reading, stores};
-use anyhow::anyhow;
+use anyhow::{bail, ensure};
 use gridstore::GridStore;
 use liststore::ListStore;
 use rules::table::Table;
 use session::{Room, Session};
-use std::fs;
 use std::time::Instant;
+use std::{fs, io};
 use store::Store;
 
-fn report(rt: &HostRuntime, name: &str, work: Work) -> anyhow::Result<()> {
-    let changes = work.changes;
-    let count = work.count;
-    println!(rt; "{name}: {changes} changes, {count} facts at the end")?;
-    Ok(())
+/// What the work comes to, and the microseconds that it took.
+fn timed<T: Drop, F: FnOnce() -> T + Drop>(rt: &HostRuntime, work: F) -> io::Result<(T, u128)>
+    requires { F.IsAlwaysCallable work }
+{
+    let start = Instant::now(rt)?;
+    let done = work();
+    let micros = start.elapsed(rt)?.as_micros();
+    Ok((done, micros))
 }
 
 fn time_store<S: Store>(
@@ -24,10 +27,11 @@ fn time_store<S: Store>(
     steps: u32,
     keys: usize,
 ) -> anyhow::Result<()> {
-    let start = Instant::now(rt)?;
-    let work = stores::puts_and_drops(store, steps, keys, 64);
-    let micros = start.elapsed(rt)?.as_micros();
-    report(rt, name, work)?;
+    let (Work { changes, count }, micros) = timed(
+        rt,
+        || stores::puts_and_drops(store, steps, keys, 64),
+    )?;
+    println!(rt; "{name}: {changes} changes, {count} facts at the end")?;
     eprintln!(rt; "{name}: {micros}")?;
     Ok(())
 }
@@ -42,9 +46,8 @@ fn time_stores(rt: &HostRuntime) -> anyhow::Result<()> {
 }
 
 fn time_reader(rt: &HostRuntime, text: &[u8]) -> anyhow::Result<()> {
-    let start = Instant::now(rt)?;
-    let nodes = reading::read_often(rt.alloc(), text, 1_000)?;
-    let micros = start.elapsed(rt)?.as_micros();
+    let (nodes, micros) = timed(rt, || reading::read_often(rt.alloc(), text, 1_000))?;
+    let nodes = nodes?;
     println!(rt; "reader: {nodes} nodes")?;
     eprintln!(rt; "reader: {micros}")?;
     Ok(())
@@ -89,27 +92,22 @@ fn time_windows(rt: &HostRuntime, windows: &str, table: &Table) -> anyhow::Resul
 }
 
 /// How often a rule was true in one judging of the twenty.
-fn time_judge(rt: &HostRuntime, table: &Table) -> anyhow::Result<u32> {
+fn time_judge(rt: &HostRuntime, table: &Table) -> anyhow::Result<usize> {
     let record = judged::random_record(rt.alloc())?;
-    let start = Instant::now(rt)?;
-    let yes = judged::judge_often(rt.alloc(), table, &record, 20)?;
-    let micros = start.elapsed(rt)?.as_micros();
+    let (yes, micros) = timed(rt, || judged::judge_often(rt.alloc(), table, &record, 20))?;
+    let yes = yes?;
     println!(rt; "judge: {yes} true")?;
     eprintln!(rt; "judge: {micros}")?;
     Ok(yes / 20)
 }
 
 /// The same record, state by state: it comes to what the judge says of it whole.
-fn time_growing(rt: &HostRuntime, table: &Table, yes: u32) -> anyhow::Result<()> {
+fn time_growing(rt: &HostRuntime, table: &Table, yes: usize) -> anyhow::Result<()> {
     let record = judged::random_record(rt.alloc())?;
-    let start = Instant::now(rt)?;
-    let Some(grown) = growing::grown(rt.alloc(), table, &record)? else {
-        return Err(anyhow!("a state is refused"));
-    };
-    let micros = start.elapsed(rt)?.as_micros();
-    if growing::count_true(&grown) != yes {
-        return Err(anyhow!("the record that grows comes to other values"));
-    }
+    let (grown, micros) = timed(rt, || growing::grown(rt.alloc(), table, &record))?;
+    let grown = grown?;
+    let found = judged::count_true(|rule, state| growing::is_true(&grown, rule, state));
+    ensure!(found == yes, "the record that grows comes to other values");
     eprintln!(rt; "growing record: {micros}")?;
     Ok(())
 }
@@ -118,7 +116,7 @@ fn table_of(rt: &HostRuntime, file: &str) -> anyhow::Result<Table> {
     let text = fs::read(rt, file)?;
     let room = Table::new(rt.alloc())?;
     let Ok(table) = room.read(text.as_slice()) else {
-        return Err(anyhow!("the rule file is refused"));
+        bail!("the rule file is refused");
     };
     Ok(table)
 }

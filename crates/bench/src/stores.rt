@@ -10,14 +10,11 @@ pub struct Work {
 }
 
 pub fn random_fact(generator: &mut Generator, keys: usize, values: usize) -> Fact {
-    let relation = (generator.below(16) & 0xff) as u8;
-    let key = (generator.below(keys) & 0xffff) as u32;
-    let value = (generator.below(values) & 0xffff) as i32;
-    Fact {
-        relation,
-        key,
-        value,
-    }
+    Fact::new(
+        (generator.below(16) & 0xff) as u8,
+        (generator.below(keys) & 0xffff) as u32,
+        (generator.below(values) & 0xffff) as i32,
+    )
 }
 
 /// Two puts for each drop, of random facts with keys and values below the bounds.
@@ -29,14 +26,9 @@ pub fn puts_and_drops<S: Store>(store: &mut S, steps: u32, keys: usize, values: 
         let changed = if generator.below(3) == 0 {
             store.drop_fact(fact)
         } else {
-            match store.put(fact) {
-                Ok(new) => new,
-                Err(_) => false,
-            }
+            store.put(fact).unwrap_or(false)
         };
-        if changed {
-            changes = changes.wrapping_add(1);
-        }
+        changes = changes.wrapping_add(u32::from(changed));
     }
     Work {
         changes,

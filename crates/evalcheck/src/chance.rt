@@ -1,5 +1,5 @@
 //! Random choices, the same in every run.
-ghost use Rattle.std.specs.Prelude.{◌≤◌};
+ghost use Rattle.std.specs.Prelude.{◌<◌, ◌≤◌};
 
 use random::Generator;
 
@@ -21,6 +21,13 @@ impl Random {
     {
         let drawn = self.source.below(limit as usize + 1);
         u32::try_from(drawn).unwrap_or(0).min(limit)
+    }
+
+    /// One of the items.
+    pub fn one_of<T: Copy, const N: usize>(&mut self, items: [T; N]) -> T
+        requires { 0 < N }
+    {
+        items[self.source.below(N)]
     }
 
     /// 64 bits, from three draws.

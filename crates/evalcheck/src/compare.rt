@@ -2,60 +2,45 @@
 use crate::chance::Random;
 use crate::facts::{add_answers, random_facts};
 use crate::grow;
-use crate::second::{Columns, NO, OPEN, Record, Times, YES, evaluate_tree};
+use crate::second::{Columns, Times, Value, evaluate_tree};
 use crate::tally::{Mode, Tally};
-use crate::tree::{Tree, write_tree};
-use anyhow::anyhow;
+use crate::tree::Tree;
+use anyhow::bail;
 use eval::evaluator::evaluate;
-use eval::leaves::{Leaves, Rows};
+use eval::leaves::Rows;
 use query::row;
+use recordtext::state::RecordText;
 use rules::table::Table;
 use std::alloc::{AllocError, Global};
 use truth::{Three, Truth};
 
-/// The most formulas and rules of a table, and the most levels of a formula.
+/// The most formulas of a table.
 const FORMULAS: u32 = 64;
 
+/// The most rules of a table.
 const RULES: u32 = 16;
 
+/// The most levels of a formula.
 const LEVELS: u32 = 12;
 
-/// A truth value as the second evaluator's number.
-trait Numbered: Truth {
-    fn number(self) -> u8;
+#[derive(Drop)]
+pub struct Rule {
+    number: u8,
+    formula: Tree,
 }
 
-impl Numbered for bool {
-    fn number(self) -> u8 {
-        if self { YES } else { NO }
-    }
-}
-
-impl Numbered for Three {
-    fn number(self) -> u8 {
-        match self {
-            Three::True => YES,
-            Three::False => NO,
-            Three::Undecided => OPEN,
-        }
-    }
-}
-
-/// The formulas of a table with their rules' numbers, and their text.
+/// The rules of a table, and their text.
 #[derive(Drop)]
 pub struct Rules {
-    pub trees: Vec<Tree>,
-    pub numbers: Vec<u8>,
+    pub rules: Vec<Rule>,
     pub text: String,
 }
 
 /// Rules of at most so many formulas in all.
+// Stays: memory and chance belong to no one value.
 pub fn random_rules(heap: Global, random: &mut Random, formulas: u32) -> Result<Rules, AllocError> {
-    let mut rules = Rules {
-        trees: Vec::new(heap),
-        numbers: Vec::new(heap),
-        text: String::new(heap),
-    };
+    let mut rules = Vec::new(heap);
+    let mut text = String::new(heap);
     let mut left = formulas.min(FORMULAS);
     let mut number: u8 = 0;
     for _ in 0..RULES {
@@ -65,95 +50,77 @@ pub fn random_rules(heap: Global, random: &mut Random, formulas: u32) -> Result<
         let size = 1 + random.up_to((left - 1).min(40));
         left = left.saturating_sub(size);
         number = number.saturating_add(1 + random.up_to(3) as u8);
-        let tree = grow::tree(heap, random, size, LEVELS)?;
-        add_rule(heap, &mut rules, number, tree)?;
+        let formula = grow::tree(heap, random, size, LEVELS)?;
+        writeln!(text, "(rule {number} {formula})")?;
+        rules.push(Rule { number, formula })?;
     }
-    Ok(rules)
+    Ok(Rules { rules, text })
 }
 
-fn add_rule(heap: Global, rules: &mut Rules, number: u8, tree: Tree) -> Result<(), AllocError> {
-    let head = format!(in heap; "(rule {number} ")?;
-    rules.text.push_str(head.as_str())?;
-    write_tree(heap, &mut rules.text, &tree)?;
-    rules.text.push_str(")\n")?;
-    rules.numbers.push(number)?;
-    rules.trees.push(tree)?;
-    Ok(())
+/// What both evaluators are given.
+#[derive(Clone, Copy)]
+struct Case<'a> {
+    rules: &'a Rules,
+    table: &'a Table,
+    record: &'a RecordText,
 }
 
-/// The columns of every formula by the second evaluator.
-fn by_trees(heap: Global, rules: &Rules, record: &Record, open: u8) -> Result<Columns, AllocError> {
-    let mut out = Columns::new(heap);
-    let times = Times {
-        stamps: record.stamps.as_slice(),
-        open,
-    };
-    for tree in rules.trees.iter() {
-        let root = evaluate_tree(heap, tree, record.rows.as_slice(), times, &mut out)?;
-        out.roots.push(root)?;
-    }
-    Ok(out)
-}
-
-/// The values of every formula at every state by the evaluator, state by state.
-fn by_table<K: Numbered>(
-    heap: Global,
-    table: &Table,
-    record: &Record,
-    pending: K,
-) -> anyhow::Result<Vec<u8>> {
-    let places = record.stamps.len().saturating_mul(table.nodes().len());
-    let mut values = Vec::new(heap);
-    for _ in 0..places {
-        values.push(pending)?;
-    }
-    let rows = Rows {
-        rows: record.rows.as_slice(),
-    };
-    if evaluate(
-        table,
-        record.stamps.as_slice(),
-        &rows,
-        pending,
-        values.as_mut_slice(),
-    )
-    .is_err()
-    {
-        return Err(anyhow!("a record was refused"));
-    }
-    let mut numbers = Vec::new(heap);
-    for value in values.iter() {
-        numbers.push(value.number())?;
-    }
-    Ok(numbers)
-}
-
-/// Compares every formula at every state, and where each rule's formula stands.
-fn compare(
-    tally: &mut Tally,
-    rules: &Rules,
-    table: &Table,
-    expected: &Columns,
-    values: &[u8],
-    mode: Mode,
-    states: usize,
-) {
-    let nodes = table.nodes().len();
-    tally.expect(nodes == expected.forms.len());
-    for (number, root) in rules.numbers.iter().zip(expected.roots.iter()) {
-        tally.expect(table.root(*number) == Some(*root));
-    }
-    let mut place: usize = 0;
-    for i in 0..states {
-        for m in 0..nodes {
-            tally.value(
-                mode,
-                expected.form(m),
-                expected.at(m, i),
-                values.get(place).copied(),
-            );
-            place = place.saturating_add(1);
+impl Case<'_> {
+    /// The columns of every formula by the second evaluator.
+    fn by_trees(self, heap: Global, open: Value) -> Result<Columns, AllocError> {
+        let mut out = Columns::new(heap);
+        let times = Times {
+            stamps: self.record.stamps.as_slice(),
+            open,
+        };
+        let rows = self.record.rows.as_slice();
+        for rule in self.rules.rules.iter() {
+            let root = evaluate_tree(heap, &rule.formula, rows, times, &mut out)?;
+            out.roots.push(root)?;
         }
+        Ok(out)
+    }
+
+    /// The values of every formula at every state by the evaluator, state by state.
+    fn by_table<K: Truth + Into<Value>>(
+        self,
+        heap: Global,
+        pending: K,
+    ) -> anyhow::Result<Vec<Value>> {
+        let stamps = self.record.stamps.as_slice();
+        let rows = Rows {
+            rows: self.record.rows.as_slice(),
+        };
+        let places = stamps.len().saturating_mul(self.table.nodes().len());
+        let mut values = Vec::new(heap);
+        values.resize(places, pending)?;
+        if evaluate(self.table, stamps, &rows, pending, values.as_mut_slice()).is_err() {
+            bail!("a record was refused");
+        }
+        Ok(values.iter().map(|value| (*value).into()).collect(heap)?)
+    }
+
+    /// Compares every formula at every state, and where each rule's formula stands.
+    fn compare<K: Truth + Into<Value>>(
+        self,
+        heap: Global,
+        tally: &mut Tally,
+        mode: Mode,
+        expected: &Columns,
+        pending: K,
+    ) -> anyhow::Result<()> {
+        let values = self.by_table(heap, pending)?;
+        let nodes = self.table.nodes().len();
+        tally.expect(nodes == expected.columns.len());
+        for (rule, root) in self.rules.rules.iter().zip(expected.roots.iter()) {
+            tally.expect(self.table.root(rule.number) == Some(*root));
+        }
+        for (state, found) in values.chunks(nodes.max(1)).enumerate() {
+            for (column, found) in expected.columns.iter().zip(found) {
+                tally.value(mode, column.form, column.at(state), *found);
+            }
+        }
+        Ok(())
     }
 }
 
@@ -168,8 +135,8 @@ pub fn check_row(
     let count = random.up_to(12);
     let facts = random_facts(heap, random, count)?;
     let mut answers = Vec::new(heap);
-    for tree in rules.trees.iter() {
-        add_answers(facts.entries.as_slice(), tree, &mut answers)?;
+    for rule in rules.rules.iter() {
+        add_answers(facts.entries.as_slice(), &rule.formula, &mut answers)?;
     }
     tally.row(answers.as_slice(), row(&facts.list, table));
     tally.row(answers.as_slice(), row(&facts.grid, table));
@@ -182,46 +149,22 @@ pub fn check(
     tally: &mut Tally,
     rules: &Rules,
     table: &Table,
-    record: &Record,
+    record: &RecordText,
 ) -> anyhow::Result<()> {
-    let states = record.stamps.len();
-    let closed = by_trees(heap, rules, record, NO)?;
-    let open = by_trees(heap, rules, record, OPEN)?;
+    let case = Case {
+        rules,
+        table,
+        record,
+    };
+    let closed = case.by_trees(heap, Value::No)?;
+    let open = case.by_trees(heap, Value::Open)?;
     tally.note(
-        rules.numbers.len(),
-        closed.forms.len(),
-        states,
+        rules.rules.len(),
+        closed.columns.len(),
+        record.stamps.len(),
         closed.edges,
     );
-    let plain = by_table(heap, table, record, false)?;
-    compare(
-        tally,
-        rules,
-        table,
-        &closed,
-        plain.as_slice(),
-        Mode::Plain,
-        states,
-    );
-    let finished = by_table(heap, table, record, Three::False)?;
-    compare(
-        tally,
-        rules,
-        table,
-        &closed,
-        finished.as_slice(),
-        Mode::Finished,
-        states,
-    );
-    let running = by_table(heap, table, record, Three::Undecided)?;
-    compare(
-        tally,
-        rules,
-        table,
-        &open,
-        running.as_slice(),
-        Mode::Running,
-        states,
-    );
-    Ok(())
+    case.compare(heap, tally, Mode::Plain, &closed, false)?;
+    case.compare(heap, tally, Mode::Finished, &closed, Three::False)?;
+    case.compare(heap, tally, Mode::Running, &open, Three::Undecided)
 }

@@ -1,4 +1,4 @@
-//! The six queries by plain loops over a list of facts.
+//! The six queries by plain chains over a list of facts.
 use crate::chance::Random;
 use crate::tree::{Form, Tree};
 use gridstore::GridStore;
@@ -7,7 +7,8 @@ use std::alloc::{AllocError, Global};
 use store::{Fact, Store};
 
 /// A fact by its three numbers.
-#[derive(Clone, Copy)]
+// Stays: a type of its own, so that the second evaluator shares no error with the first.
+#[derive(Clone, Copy, PartialEq, Eq, Debug)]
 pub struct Entry {
     relation: i64,
     key: i64,
@@ -22,16 +23,8 @@ pub struct Facts {
     pub grid: GridStore,
 }
 
-fn is_in(entries: &[Entry], relation: i64, key: i64, value: i64) -> bool {
-    for entry in entries {
-        if entry.relation == relation && entry.key == key && entry.value == value {
-            return true;
-        }
-    }
-    false
-}
-
 /// So many random facts, of few relations, keys and values; a fact that comes again is left out of the list.
+// Stays: memory and chance belong to no one value.
 pub fn random_facts(heap: Global, random: &mut Random, count: u32) -> Result<Facts, AllocError> {
     let mut entries = Vec::new(heap);
     let mut list = ListStore::new(heap, count as usize)?;
@@ -52,7 +45,7 @@ pub fn random_facts(heap: Global, random: &mut Random, count: u32) -> Result<Fac
             key: i64::from(key),
             value: i64::from(value),
         };
-        if !is_in(entries.as_slice(), entry.relation, entry.key, entry.value) {
+        if !entries.contains(&entry) {
             entries.push(entry)?;
         }
     }
@@ -63,80 +56,74 @@ pub fn random_facts(heap: Global, random: &mut Random, count: u32) -> Result<Fac
     })
 }
 
-fn some(entries: &[Entry], relation: i64, low: i64, high: i64) -> bool {
-    for entry in entries {
-        if entry.relation == relation && low <= entry.value && entry.value <= high {
-            return true;
-        }
-    }
-    false
+/// The facts of one relation.
+#[derive(Clone, Copy)]
+struct Relation<'a> {
+    entries: &'a [Entry],
+    number: i64,
 }
 
-fn every(entries: &[Entry], relation: i64, low: i64, high: i64) -> bool {
-    for entry in entries {
-        if entry.relation == relation && (entry.value < low || high < entry.value) {
-            return false;
-        }
+impl Relation<'_> {
+    fn some(self, low: i64, high: i64) -> bool {
+        self.entries.iter().any(|entry| entry.relation == self.number
+            && (low..=high).contains(&entry.value))
     }
-    true
-}
 
-fn number(entries: &[Entry], relation: i64) -> i64 {
-    let mut count: i64 = 0;
-    for entry in entries {
-        if entry.relation == relation {
-            count = count.saturating_add(1);
-        }
+    fn every(self, low: i64, high: i64) -> bool {
+        self.entries.iter().all(|entry| entry.relation != self.number
+            || (low..=high).contains(&entry.value))
     }
-    count
-}
 
-fn has_key(entries: &[Entry], relation: i64, key: i64) -> bool {
-    for entry in entries {
-        if entry.relation == relation && entry.key == key {
-            return true;
-        }
+    fn count(self) -> i64 {
+        let count = self
+            .entries
+            .iter()
+            .filter(|entry| entry.relation == self.number)
+            .count();
+        i64::try_from(count).unwrap_or(i64::MAX)
     }
-    false
-}
 
-fn refer(entries: &[Entry], relation: i64, other: i64) -> bool {
-    for entry in entries {
-        if entry.relation == relation && !has_key(entries, other, entry.key) {
-            return false;
-        }
+    fn has_key(self, key: i64) -> bool {
+        self.entries
+            .iter()
+            .any(|entry| entry.relation == self.number && entry.key == key)
     }
-    true
-}
 
-fn is_above(entries: &[Entry], entry: Entry, other: i64) -> bool {
-    for beside in entries {
-        if beside.relation == other && beside.key == entry.key && entry.value > beside.value {
-            return true;
-        }
+    /// Whether each key is one of the other relation.
+    fn refer(self, other: Relation<'_>) -> bool {
+        self.entries.iter().all(|entry| entry.relation != self.number || other.has_key(entry.key))
     }
-    false
-}
 
-fn level(entries: &[Entry], relation: i64, other: i64) -> bool {
-    for entry in entries {
-        if entry.relation == relation && is_above(entries, *entry, other) {
-            return false;
-        }
+    /// Whether a value at the key of a fact is below that fact's.
+    // Stays: the same key and a smaller value is neither an equality nor an order of facts.
+    fn is_below(self, fact: &Entry) -> bool {
+        self.entries.iter().any(|entry| {
+            entry.relation == self.number && entry.key == fact.key && entry.value < fact.value
+        })
     }
-    true
+
+    /// Whether no value is above one of the other relation at its key.
+    fn level(self, other: Relation<'_>) -> bool {
+        self.entries.iter().all(|entry| entry.relation != self.number || !other.is_below(entry))
+    }
 }
 
 /// The answer of a query; `(true)` is no query and answers no.
 fn answer(entries: &[Entry], form: Form, numbers: [i64; 3]) -> bool {
     let [a, b, c] = numbers;
+    let relation = Relation { entries, number: a };
+    let other = Relation { entries, number: b };
     match form {
-        Form::Some => some(entries, a, b, c),
-        Form::Every => every(entries, a, b, c),
-        Form::Fact => is_in(entries, a, b, c),
-        Form::Number => b <= number(entries, a) && number(entries, a) <= c,
-        Form::Refer => refer(entries, a, b),
-        Form::Level => level(entries, a, b),
+        Form::Some => relation.some(b, c),
+        Form::Every => relation.every(b, c),
+        Form::Fact => entries.contains(&Entry {
+            relation: a,
+            key: b,
+            value: c,
+        }),
+        Form::Number => (b..=c).contains(&relation.count()),
+        Form::Refer => relation.refer(other),
+        Form::Level => relation.level(other),
         _ => false,
     }
 }
@@ -149,11 +136,11 @@ pub fn add_answers(
 ) -> Result<(), AllocError> {
     match tree {
         Tree::Leaf(form, numbers) => answers.push(answer(entries, *form, *numbers))?,
-        Tree::One(_, _, operand) => {
+        Tree::One(_, operand) => {
             add_answers(entries, operand, answers)?;
             answers.push(false)?;
         }
-        Tree::Two(_, _, first, second) => {
+        Tree::Two(_, first, second) => {
             add_answers(entries, first, answers)?;
             add_answers(entries, second, answers)?;
             answers.push(false)?;

@@ -1,8 +1,30 @@
 //! Random formulas and records.
 use crate::chance::Random;
-use crate::second::Record;
-use crate::tree::{Bounds, Form, Tree, form_at};
+use crate::tree::{Bounds, Form, Operator, Tree};
+use recordtext::state::RecordText;
 use std::alloc::{AllocError, Global};
+
+const QUERIES: [Form; 6] = [
+    Form::Some,
+    Form::Every,
+    Form::Fact,
+    Form::Number,
+    Form::Refer,
+    Form::Level,
+];
+
+const UNARY: [Form; 8] = [
+    Form::Not,
+    Form::Next,
+    Form::AllNext,
+    Form::Sometime,
+    Form::Always,
+    Form::Previous,
+    Form::Once,
+    Form::SoFar,
+];
+
+const BINARY: [Form; 5] = [Form::And, Form::Or, Form::Implies, Form::Until, Form::Since];
 
 /// Windows of small numbers, so that distances fall on their edges; now and then a wide one.
 fn bounds(random: &mut Random) -> Bounds {
@@ -50,61 +72,38 @@ fn leaf(random: &mut Random) -> Tree {
     let form = if random.one_in(8) {
         Form::True
     } else {
-        form_at(1 + random.up_to(5))
+        random.one_of(QUERIES)
     };
     Tree::Leaf(form, numbers(random, form))
 }
 
-fn form_of_one(random: &mut Random) -> Form {
-    match random.up_to(7) {
-        0 => Form::Not,
-        1 => Form::Next,
-        2 => Form::AllNext,
-        3 => Form::Sometime,
-        4 => Form::Always,
-        5 => Form::Previous,
-        6 => Form::Once,
-        _ => Form::SoFar,
-    }
-}
-
-fn form_of_two(random: &mut Random) -> Form {
-    match random.up_to(4) {
-        0 => Form::And,
-        1 => Form::Or,
-        2 => Form::Implies,
-        3 => Form::Until,
-        _ => Form::Since,
-    }
-}
-
 /// A formula of at most `size` formulas and `levels` levels.
+// Stays: memory and chance belong to no one value.
 pub fn tree(heap: Global, random: &mut Random, size: u32, levels: u32) -> Result<Tree, AllocError> {
     if size <= 1 || levels <= 1 {
         return Ok(leaf(random));
     }
     let rest = size - 1;
     if rest == 1 || random.one_in(3) {
-        let form = form_of_one(random);
-        let window = bounds(random);
+        let operator = Operator {
+            form: random.one_of(UNARY),
+            window: bounds(random),
+        };
         let operand = tree(heap, random, rest, levels - 1)?;
-        return Ok(Tree::One(form, window, Box::new(heap, operand)?));
+        return Ok(Tree::One(operator, Box::new(heap, operand)?));
     }
-    let form = form_of_two(random);
-    let window = bounds(random);
+    let operator = Operator {
+        form: random.one_of(BINARY),
+        window: bounds(random),
+    };
     let left = random.up_to(rest - 2) + 1;
     let first = tree(heap, random, left, levels - 1)?;
     let second = tree(heap, random, rest - left, levels - 1)?;
-    Ok(Tree::Two(
-        form,
-        window,
-        Box::new(heap, first)?,
-        Box::new(heap, second)?,
-    ))
+    Ok(Tree::Two(operator, Box::new(heap, first)?, Box::new(heap, second)?))
 }
 
 /// A record of that many states: small steps between stamps, and rows of which every bit is random.
-pub fn record(heap: Global, random: &mut Random, states: u32) -> Result<Record, AllocError> {
+pub fn record(heap: Global, random: &mut Random, states: u32) -> Result<RecordText, AllocError> {
     let mut stamps = Vec::new(heap);
     let mut rows = Vec::new(heap);
     let mut stamp = u64::from(random.up_to(3));
@@ -120,5 +119,5 @@ pub fn record(heap: Global, random: &mut Random, states: u32) -> Result<Record, 
         };
         stamp = stamp.saturating_add(u64::from(step));
     }
-    Ok(Record { stamps, rows })
+    Ok(RecordText { stamps, rows })
 }

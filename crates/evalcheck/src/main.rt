@@ -10,7 +10,7 @@ mod second;
 mod tally;
 mod tree;
 
-use anyhow::anyhow;
+use anyhow::{bail, ensure};
 use chance::Random;
 use rules::table::Table;
 use std::alloc::Global;
@@ -19,6 +19,7 @@ use tally::Tally;
 const TABLES: u32 = 3000;
 
 /// One table in four is as large as a table can be, and one record in sixteen is long.
+// Stays: memory and chance belong to no one value.
 fn run_one(heap: Global, random: &mut Random, tally: &mut Tally) -> anyhow::Result<()> {
     let formulas = if random.one_in(4) {
         64
@@ -33,15 +34,15 @@ fn run_one(heap: Global, random: &mut Random, tally: &mut Tally) -> anyhow::Resu
         random.up_to(9)
     };
     let record = grow::record(heap, random, states)?;
-    let table = match Table::new(heap)?.read(rules.text.as_bytes()) {
-        Ok(table) => table,
-        Err(_) => return Err(anyhow!("a table was refused")),
+    let Ok(table) = Table::new(heap)?.read(rules.text.as_bytes()) else {
+        bail!("a table was refused");
     };
     compare::check_row(heap, random, tally, &rules, &table)?;
     compare::check(heap, tally, &rules, &table, &record)
 }
 
 /// How deep formulas lie in each other: the most brackets open at a time, but for the rule's own.
+// Stays: a fold would carry the open brackets and the most of them in a pair.
 fn levels(text: &[u8]) -> usize {
     let mut open: usize = 0;
     let mut most: usize = 0;
@@ -58,16 +59,13 @@ fn levels(text: &[u8]) -> usize {
 
 fn run(rt: &HostRuntime) -> anyhow::Result<()> {
     let mut random = Random::new(20_261_118);
-    let mut tally = Tally::new();
+    let mut tally = Tally::default();
     for _ in 0..TABLES {
         run_one(rt.alloc(), &mut random, &mut tally)?;
     }
     tally.print(rt)?;
-    if tally.is_clean() {
-        Ok(())
-    } else {
-        Err(anyhow!("the evaluators differ"))
-    }
+    ensure!(tally.is_clean(), "the evaluators differ");
+    Ok(())
 }
 
 fn main(rt: HostRuntime) -> anyhow::Result<()> {

@@ -1,33 +1,67 @@
-//! The second evaluator: on trees, by the words of the definitions, truth values as the numbers 0, 1 and 2.
+//! The second evaluator: on trees, by the words of the definitions, with truth values in order: no, open, yes.
 //! And is the least, or the greatest, and not counts from the other end.
-use crate::tree::{Bounds, Form, Tree, has_window};
+use crate::tree::{Bounds, Form, Operator, Tree};
 use std::alloc::{AllocError, Global};
+use std::ops::Not;
+use truth::Three;
 
-pub const NO: u8 = 0;
+// Stays: a type of its own, so that the second evaluator shares no error with the first.
+#[derive(Clone, Copy, PartialEq, Eq, PartialOrd, Ord, Debug)]
+pub enum Value {
+    No,
+    Open,
+    Yes,
+}
 
-pub const OPEN: u8 = 1;
+// Stays: values of its own and what they are made of, so that this evaluator shares no error with another.
+impl Not for Value {
+    type Output = Value;
 
-pub const YES: u8 = 2;
+    fn not(self) -> Value {
+        match self {
+            Value::No => Value::Yes,
+            Value::Open => Value::Open,
+            Value::Yes => Value::No,
+        }
+    }
+}
 
-#[derive(Drop)]
-pub struct Record {
-    pub stamps: Vec<u64>,
-    pub rows: Vec<u64>,
+impl From<bool> for Value {
+    fn from(truth: bool) -> Value {
+        if truth { Value::Yes } else { Value::No }
+    }
+}
+
+impl From<Three> for Value {
+    fn from(truth: Three) -> Value {
+        match truth {
+            Three::True => Value::Yes,
+            Three::False => Value::No,
+            Three::Undecided => Value::Open,
+        }
+    }
 }
 
 /// What the operators look at: the stamps, and what an open mark is.
 #[derive(Clone, Copy)]
 pub struct Times<'a> {
     pub stamps: &'a [u64],
-    pub open: u8,
+    pub open: Value,
 }
 
-fn opposite(value: u8) -> u8 {
-    YES.saturating_sub(value)
+fn at(column: &[Value], state: usize) -> Value {
+    column.get(state).copied().unwrap_or(Value::No)
 }
 
-fn at(column: &[u8], state: usize) -> u8 {
-    column.get(state).copied().unwrap_or(NO)
+/// The least value from one state up to another, which is left out.
+fn least(column: &[Value], from: usize, to: usize) -> Value {
+    column
+        .iter()
+        .take(to)
+        .skip(from)
+        .copied()
+        .min()
+        .unwrap_or(Value::Yes)
 }
 
 impl Times<'_> {
@@ -35,263 +69,174 @@ impl Times<'_> {
         self.stamps.get(state).copied().unwrap_or(0)
     }
 
-    /// Whether the time from one state to a later one lies within the bounds.
-    fn within(self, bounds: Bounds, from: usize, to: usize) -> bool {
-        let distance = self.stamp(to).saturating_sub(self.stamp(from));
-        match bounds.high {
-            Some(high) => bounds.low <= distance && distance <= high,
-            None => bounds.low <= distance,
-        }
+    /// Whether the time from one state to a later one lies within the window.
+    fn within(self, window: Bounds, from: usize, to: usize) -> bool {
+        window.contain(self.stamp(to).saturating_sub(self.stamp(from)))
     }
 
-    fn mark(self, bounds: Bounds, state: usize) -> u8 {
-        let last = self.stamp(self.stamps.len().saturating_sub(1));
-        match bounds.high {
-            Some(high) if last.saturating_sub(self.stamp(state)) >= high => NO,
+    fn mark(self, window: Bounds, state: usize) -> Value {
+        let last = self.stamps.last().copied().unwrap_or(0);
+        match window.high {
+            Some(high) if last.saturating_sub(self.stamp(state)) >= high => Value::No,
             _ => self.open,
         }
     }
 
-    fn next(self, bounds: Bounds, f: &[u8], i: usize) -> u8 {
+    // Stays: a struct of window and state would be built anew for each call, as the state changes with each.
+    fn next<F: Fn(usize) -> Value>(self, window: Bounds, i: usize, value: F) -> Value
+        requires { F.IsAlwaysCallable value }
+    {
         let next = i.saturating_add(1);
         if next >= self.stamps.len() {
-            return self.mark(bounds, i);
-        }
-        if self.within(bounds, i, next) {
-            at(f, next)
+            self.mark(window, i)
+        } else if self.within(window, i, next) {
+            value(next)
         } else {
-            NO
+            Value::No
         }
     }
 
-    fn all_next(self, bounds: Bounds, f: &[u8], i: usize) -> u8 {
-        let next = i.saturating_add(1);
-        if next >= self.stamps.len() {
-            return opposite(self.mark(bounds, i));
-        }
-        if self.within(bounds, i, next) {
-            at(f, next)
-        } else {
-            YES
+    fn previous<F: Fn(usize) -> Value>(self, window: Bounds, i: usize, value: F) -> Value
+        requires { F.IsAlwaysCallable value }
+    {
+        match i.checked_sub(1) {
+            Some(previous) if self.within(window, previous, i) => value(previous),
+            _ => Value::No,
         }
     }
 
-    fn previous(self, bounds: Bounds, f: &[u8], i: usize) -> u8 {
-        if i == 0 {
-            return NO;
-        }
-        if self.within(bounds, i - 1, i) {
-            at(f, i - 1)
-        } else {
-            NO
+    /// The greatest value from a state on within the window, and what the record leaves open.
+    // Stays: each function that calls a parameter has to ask that it may.
+    fn ahead<F: Fn(usize) -> Value>(self, window: Bounds, i: usize, open: Value, value: F) -> Value
+        requires { (f : _) (a : _) → F.FnMut.pre f a }
+    {
+        (i..self.stamps.len())
+            .filter(|j| self.within(window, i, *j))
+            .map(value)
+            .fold(open, Value::max)
+    }
+
+    /// The greatest value up to a state within the window.
+    fn back<F: Fn(usize) -> Value>(self, window: Bounds, i: usize, value: F) -> Value
+        requires { (f : _) (a : _) → F.FnMut.pre f a }
+    {
+        (0..=i)
+            .filter(|j| self.within(window, *j, i))
+            .map(value)
+            .max()
+            .unwrap_or(Value::No)
+    }
+
+    fn of_one(self, operator: Operator, f: &[Value], i: usize) -> Value {
+        let window = operator.window;
+        let mark = self.mark(window, i);
+        match operator.form {
+            Form::Next => self.next(window, i, |j| at(f, j)),
+            Form::AllNext => !self.next(window, i, |j| !at(f, j)),
+            Form::Sometime => self.ahead(window, i, mark, |j| at(f, j)),
+            Form::Always => !self.ahead(window, i, mark, |j| !at(f, j)),
+            Form::Previous => self.previous(window, i, |j| at(f, j)),
+            Form::Once => self.back(window, i, |j| at(f, j)),
+            Form::SoFar => !self.back(window, i, |j| !at(f, j)),
+            _ => !at(f, i),
         }
     }
 
-    fn sometime(self, bounds: Bounds, f: &[u8], i: usize) -> u8 {
-        let mut value = self.mark(bounds, i);
-        for j in i..self.stamps.len() {
-            if self.within(bounds, i, j) {
-                value = value.max(at(f, j));
-            }
-        }
-        value
+    fn until(self, window: Bounds, f: &[Value], g: &[Value], i: usize) -> Value {
+        let open = self.mark(window, i).min(least(f, i, self.stamps.len()));
+        self.ahead(window, i, open, |j| at(g, j).min(least(f, i, j)))
     }
 
-    fn always(self, bounds: Bounds, f: &[u8], i: usize) -> u8 {
-        let mut value = opposite(self.mark(bounds, i));
-        for j in i..self.stamps.len() {
-            if self.within(bounds, i, j) {
-                value = value.min(at(f, j));
-            }
-        }
-        value
+    fn since(self, window: Bounds, f: &[Value], g: &[Value], i: usize) -> Value {
+        self.back(window, i, |j| {
+            at(g, j).min(least(f, j.saturating_add(1), i.saturating_add(1)))
+        })
     }
 
-    fn once(self, bounds: Bounds, f: &[u8], i: usize) -> u8 {
-        let mut value = NO;
-        for j in 0..=i {
-            if self.within(bounds, j, i) {
-                value = value.max(at(f, j));
-            }
-        }
-        value
-    }
-
-    fn so_far(self, bounds: Bounds, f: &[u8], i: usize) -> u8 {
-        let mut value = YES;
-        for j in 0..=i {
-            if self.within(bounds, j, i) {
-                value = value.min(at(f, j));
-            }
-        }
-        value
-    }
-
-    fn until(self, bounds: Bounds, f: &[u8], g: &[u8], i: usize) -> u8 {
-        let end = self.stamps.len();
-        let mut value = self.mark(bounds, i).min(least(f, i, end));
-        for j in i..end {
-            if self.within(bounds, i, j) {
-                value = value.max(at(g, j).min(least(f, i, j)));
-            }
-        }
-        value
-    }
-
-    fn since(self, bounds: Bounds, f: &[u8], g: &[u8], i: usize) -> u8 {
-        let mut value = NO;
-        for j in 0..=i {
-            if self.within(bounds, j, i) {
-                value = value.max(at(g, j).min(least(f, j.saturating_add(1), i.saturating_add(1))));
-            }
-        }
-        value
-    }
-
-    fn of_one(self, form: Form, bounds: Bounds, f: &[u8], i: usize) -> u8 {
-        match form {
-            Form::Next => self.next(bounds, f, i),
-            Form::AllNext => self.all_next(bounds, f, i),
-            Form::Sometime => self.sometime(bounds, f, i),
-            Form::Always => self.always(bounds, f, i),
-            Form::Previous => self.previous(bounds, f, i),
-            Form::Once => self.once(bounds, f, i),
-            Form::SoFar => self.so_far(bounds, f, i),
-            _ => opposite(at(f, i)),
-        }
-    }
-
-    fn of_two(self, form: Form, bounds: Bounds, f: &[u8], g: &[u8], i: usize) -> u8 {
-        match form {
+    fn of_two(self, operator: Operator, f: &[Value], g: &[Value], i: usize) -> Value {
+        match operator.form {
             Form::And => at(f, i).min(at(g, i)),
             Form::Or => at(f, i).max(at(g, i)),
-            Form::Implies => opposite(at(f, i)).max(at(g, i)),
-            Form::Until => self.until(bounds, f, g, i),
-            _ => self.since(bounds, f, g, i),
+            Form::Implies => (!at(f, i)).max(at(g, i)),
+            Form::Until => self.until(operator.window, f, g, i),
+            _ => self.since(operator.window, f, g, i),
         }
     }
 
-    fn column_of_one(
-        self,
-        heap: Global,
-        form: Form,
-        bounds: Bounds,
-        f: &[u8],
-    ) -> Result<Vec<u8>, AllocError> {
-        let mut column = Vec::new(heap);
-        for i in 0..self.stamps.len() {
-            column.push(self.of_one(form, bounds, f, i))?;
+    /// How many distances between states are a bound of the operator's window.
+    fn edges(self, operator: Operator) -> usize {
+        if !operator.form.has_window() {
+            return 0;
         }
-        Ok(column)
+        self.stamps
+            .iter()
+            .enumerate()
+            .map(|(j, later)| {
+                let before = self.stamps.iter().take(j);
+                before
+                    .filter(|earlier| operator.window.has_edge(later.saturating_sub(**earlier)))
+                    .count()
+            })
+            .fold(0, usize::saturating_add)
     }
 
-    fn column_of_two(
-        self,
-        heap: Global,
-        form: Form,
-        bounds: Bounds,
-        f: &[u8],
-        g: &[u8],
-    ) -> Result<Vec<u8>, AllocError> {
-        let mut column = Vec::new(heap);
-        for i in 0..self.stamps.len() {
-            column.push(self.of_two(form, bounds, f, g, i))?;
-        }
-        Ok(column)
+    /// The value of every state.
+    fn column<F: Fn(usize) -> Value>(self, heap: Global, value: F) -> Result<Vec<Value>, AllocError>
+        requires { (f : _) (a : _) → F.FnMut.pre f a }
+    {
+        (0..self.stamps.len()).map(value).collect(heap)
     }
 }
 
-/// The least value from one state up to another, which is left out.
-fn least(column: &[u8], from: usize, to: usize) -> u8 {
-    let mut value = YES;
-    for k in from..to {
-        value = value.min(at(column, k));
-    }
-    value
+/// A formula's values, state by state.
+#[derive(Drop)]
+pub struct Column {
+    pub form: Form,
+    values: Vec<Value>,
 }
 
-/// The column of each formula of the trees so far, in the order of the closing brackets, with its form.
+impl Column {
+    pub fn at(&self, state: usize) -> Value {
+        at(self.values.as_slice(), state)
+    }
+}
+
+/// The columns of the trees so far, in the order of the closing brackets.
+// Stays: roots and columns are no pairs: there are as many roots as rules.
 #[derive(Drop)]
 pub struct Columns {
-    columns: Vec<Vec<u8>>,
-    pub forms: Vec<Form>,
+    pub columns: Vec<Column>,
     /// The column of each rule's formula.
     pub roots: Vec<usize>,
     /// How many distances between states were a bound of a window.
-    pub edges: u64,
+    pub edges: usize,
 }
 
 impl Columns {
     pub fn new(heap: Global) -> Columns {
         Columns {
             columns: Vec::new(heap),
-            forms: Vec::new(heap),
             roots: Vec::new(heap),
             edges: 0,
         }
     }
 
-    pub fn form(&self, number: usize) -> Form {
-        self.forms.get(number).copied().unwrap_or(Form::True)
+    fn values(&self, number: usize) -> &[Value] {
+        self.columns
+            .get(number)
+            .map_or(&[], |column| column.values.as_slice())
     }
 
-    pub fn at(&self, number: usize, state: usize) -> u8 {
-        at(self.column(number), state)
-    }
-
-    fn note_edges(&mut self, times: Times<'_>, form: Form, bounds: Bounds) {
-        if !has_window(form) {
-            return;
-        }
-        for j in 0..times.stamps.len() {
-            for i in 0..j {
-                let distance = times.stamp(j).saturating_sub(times.stamp(i));
-                if distance == bounds.low || bounds.high == Some(distance) {
-                    self.edges = self.edges.saturating_add(1);
-                }
-            }
-        }
-    }
-
-    fn column(&self, number: usize) -> &[u8] {
-        match self.columns.get(number) {
-            Some(column) => column.as_slice(),
-            None => &[],
-        }
-    }
-
-    fn add(&mut self, form: Form, column: Vec<u8>) -> Result<usize, AllocError> {
+    fn add(&mut self, form: Form, values: Vec<Value>) -> Result<usize, AllocError> {
         let number = self.columns.len();
-        self.columns.push(column)?;
-        self.forms.push(form)?;
+        self.columns.push(Column { form, values })?;
         Ok(number)
     }
 }
 
-fn leaf_column(
-    heap: Global,
-    form: Form,
-    rows: &[u64],
-    number: usize,
-) -> Result<Vec<u8>, AllocError> {
-    let mut column = Vec::new(heap);
-    for row in rows {
-        let answer = match form {
-            Form::True => true,
-            _ => has_bit(*row, number),
-        };
-        column.push(if answer { YES } else { NO })?;
-    }
-    Ok(column)
-}
-
 /// Whether the bit is set: the row is halved that many times.
 fn has_bit(row: u64, number: usize) -> bool {
-    let mut rest = row;
-    for _ in 0..number {
-        rest /= 2;
-    }
-    rest % 2 == 1
+    (0..number).fold(row, |rest, _| rest / 2) % 2 == 1
 }
 
 /// Adds the columns of the tree's formulas, and answers the number of its own.
@@ -304,21 +249,28 @@ pub fn evaluate_tree(
 ) -> Result<usize, AllocError> {
     match tree {
         Tree::Leaf(form, _) => {
-            let column = leaf_column(heap, *form, rows, out.columns.len())?;
-            out.add(*form, column)
+            let number = out.columns.len();
+            let values = rows
+                .iter()
+                .map(|row| Value::from(*form == Form::True || has_bit(*row, number)))
+                .collect(heap)?;
+            out.add(*form, values)
         }
-        Tree::One(form, bounds, operand) => {
+        Tree::One(operator, operand) => {
             let f = evaluate_tree(heap, operand, rows, times, out)?;
-            out.note_edges(times, *form, *bounds);
-            let column = times.column_of_one(heap, *form, *bounds, out.column(f))?;
-            out.add(*form, column)
+            let f = out.values(f);
+            let values = times.column(heap, |i| times.of_one(*operator, f, i))?;
+            out.edges = out.edges.saturating_add(times.edges(*operator));
+            out.add(operator.form, values)
         }
-        Tree::Two(form, bounds, first, second) => {
+        Tree::Two(operator, first, second) => {
             let f = evaluate_tree(heap, first, rows, times, out)?;
             let g = evaluate_tree(heap, second, rows, times, out)?;
-            out.note_edges(times, *form, *bounds);
-            let column = times.column_of_two(heap, *form, *bounds, out.column(f), out.column(g))?;
-            out.add(*form, column)
+            let f = out.values(f);
+            let g = out.values(g);
+            let values = times.column(heap, |i| times.of_two(*operator, f, g, i))?;
+            out.edges = out.edges.saturating_add(times.edges(*operator));
+            out.add(operator.form, values)
         }
     }
 }

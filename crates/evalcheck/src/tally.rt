@@ -1,91 +1,79 @@
 //! What was compared, and how often the two evaluators differed.
-use crate::second::{NO, YES};
-use crate::tree::{FORMS, Form, form_at, word};
-use std::io;
+use crate::second::Value;
+use crate::tree::{FORMS, Form};
+use std::{fmt, io};
 
 /// How a record is judged.
-#[derive(Clone, Copy)]
+#[derive(Clone, Copy, PartialEq, Eq, Debug)]
 pub enum Mode {
     Plain,
     Running,
     Finished,
 }
 
+#[derive(Clone, Copy, PartialEq, Eq, Debug, Default)]
+struct Count(u64);
+
+impl Count {
+    fn add(&mut self, more: usize) {
+        self.0 = self.0.saturating_add(more as u64);
+    }
+}
+
+impl fmt::Display for Count {
+    fn fmt<W: fmt::Write>(&self, f: &mut fmt::Formatter<W>) -> fmt::Result {
+        let count = self.0;
+        write!(f, "{count}")
+    }
+}
+
 /// How often a value was true, false and undecided.
-#[derive(Clone, Copy)]
+#[derive(Clone, Copy, PartialEq, Eq, Debug, Default)]
 struct Verdicts {
-    yes: u64,
-    no: u64,
-    open: u64,
+    yes: Count,
+    no: Count,
+    open: Count,
 }
 
 impl Verdicts {
-    fn none() -> Verdicts {
-        Verdicts {
-            yes: 0,
-            no: 0,
-            open: 0,
-        }
-    }
-
-    fn add(&mut self, value: u8) {
+    fn add(&mut self, value: Value) {
         match value {
-            YES => self.yes = self.yes.saturating_add(1),
-            NO => self.no = self.no.saturating_add(1),
-            _ => self.open = self.open.saturating_add(1),
+            Value::Yes => self.yes.add(1),
+            Value::No => self.no.add(1),
+            Value::Open => self.open.add(1),
         }
     }
 }
 
-#[derive(Drop)]
+#[derive(Default, Drop)]
 pub struct Tally {
-    tables: u64,
-    rules: u64,
-    formulas: u64,
-    states: u64,
+    tables: Count,
+    rules: Count,
+    formulas: Count,
+    states: Count,
     most_formulas: usize,
     most_states: usize,
     deepest: usize,
-    edges: u64,
-    forms: [u64; FORMS],
+    edges: Count,
+    forms: [Count; FORMS.len()],
     plain: Verdicts,
     running: Verdicts,
     finished: Verdicts,
-    rows: u64,
+    rows: Count,
     answers: Verdicts,
-    differences: u64,
+    differences: Count,
 }
 
 impl Tally {
-    pub fn new() -> Tally {
-        Tally {
-            tables: 0,
-            rules: 0,
-            formulas: 0,
-            states: 0,
-            most_formulas: 0,
-            most_states: 0,
-            deepest: 0,
-            edges: 0,
-            forms: [0; FORMS],
-            plain: Verdicts::none(),
-            running: Verdicts::none(),
-            finished: Verdicts::none(),
-            rows: 0,
-            answers: Verdicts::none(),
-            differences: 0,
-        }
-    }
-
     /// One table on one record.
-    pub fn note(&mut self, rules: usize, formulas: usize, states: usize, edges: u64) {
-        self.tables = self.tables.saturating_add(1);
-        self.rules = self.rules.saturating_add(rules as u64);
-        self.formulas = self.formulas.saturating_add(formulas as u64);
-        self.states = self.states.saturating_add(states as u64);
+    pub fn note(&mut self, rules: usize, formulas: usize, states: usize, edges: usize) {
+        self.tables.add(1);
+        self.rules.add(rules);
+        self.formulas.add(formulas);
+        self.states.add(states);
         self.most_formulas = self.most_formulas.max(formulas);
         self.most_states = self.most_states.max(states);
-        self.edges = self.edges.saturating_add(edges);
+        self.edges.add(edges);
     }
 
     pub fn note_depth(&mut self, levels: usize) {
@@ -93,16 +81,14 @@ impl Tally {
     }
 
     pub fn expect(&mut self, same: bool) {
-        if !same {
-            self.differences = self.differences.saturating_add(1);
-        }
+        self.differences.add(usize::from(!same));
     }
 
     /// One value of a formula at a state, as expected and as found.
-    pub fn value(&mut self, mode: Mode, form: Form, expected: u8, found: Option<u8>) {
-        self.expect(found == Some(expected));
+    pub fn value(&mut self, mode: Mode, form: Form, expected: Value, found: Value) {
+        self.expect(found == expected);
         if let Some(count) = self.forms.get_mut(form as usize) {
-            *count = count.saturating_add(1);
+            count.add(1);
         }
         match mode {
             Mode::Plain => self.plain.add(expected),
@@ -113,18 +99,18 @@ impl Tally {
 
     /// One state's answers as expected, and its row as found.
     pub fn row(&mut self, expected: &[bool], found: u64) {
-        self.rows = self.rows.saturating_add(1);
+        self.rows.add(1);
         let mut rest = found;
         for answer in expected {
             self.expect((rest % 2 == 1) == *answer);
-            self.answers.add(if *answer { YES } else { NO });
+            self.answers.add(Value::from(*answer));
             rest /= 2;
         }
         self.expect(rest == 0);
     }
 
     pub fn is_clean(&self) -> bool {
-        self.differences == 0
+        self.differences == Count(0)
     }
 
     pub fn print(&self, rt: &impl Print) -> io::Result<()> {
@@ -141,12 +127,8 @@ impl Tally {
             self.states, self.most_states
         )?;
         println!(rt; "distances on an edge of a window {}", self.edges)?;
-        for place in 0..FORMS {
-            println!(rt;
-                "values of {}: {}",
-                word(form_at(place as u32)),
-                self.forms[place]
-            )?;
+        for (form, count) in FORMS.iter().zip(self.forms.iter()) {
+            println!(rt; "values of {form}: {count}")?;
         }
         println!(rt; "plain: true {}, false {}", self.plain.yes, self.plain.no)?;
         print_verdicts(rt, "running", self.running)?;

@@ -1,8 +1,8 @@
 //! Formulas as trees.
-use std::alloc::{AllocError, Global};
+use std::fmt;
 
-/// The twenty forms, in the order in which their counts are printed.
-#[derive(Clone, Copy)]
+// Stays: a type of its own, so that the second evaluator shares no error with the first.
+#[derive(Clone, Copy, PartialEq, Eq, Debug)]
 pub enum Form {
     True,
     Some,
@@ -26,154 +26,144 @@ pub enum Form {
     Since,
 }
 
-pub const FORMS: usize = 20;
+/// The twenty forms, in the order in which their counts are printed.
+pub const FORMS: [Form; 20] = [
+    Form::True,
+    Form::Some,
+    Form::Every,
+    Form::Fact,
+    Form::Number,
+    Form::Refer,
+    Form::Level,
+    Form::Not,
+    Form::And,
+    Form::Or,
+    Form::Implies,
+    Form::Next,
+    Form::AllNext,
+    Form::Sometime,
+    Form::Always,
+    Form::Until,
+    Form::Previous,
+    Form::Once,
+    Form::SoFar,
+    Form::Since,
+];
+
+impl Form {
+    pub fn has_window(self) -> bool {
+        !matches!(self, Form::Not | Form::And | Form::Or | Form::Implies)
+    }
+
+    fn item_count(self) -> usize {
+        match self {
+            Form::True => 0,
+            Form::Refer | Form::Level => 2,
+            _ => 3,
+        }
+    }
+}
+
+impl fmt::Display for Form {
+    fn fmt<W: fmt::Write>(&self, f: &mut fmt::Formatter<W>) -> fmt::Result {
+        f.write_str(match self {
+            Form::True => "true",
+            Form::Some => "some",
+            Form::Every => "every",
+            Form::Fact => "fact",
+            Form::Number => "number",
+            Form::Refer => "refer",
+            Form::Level => "level",
+            Form::Not => "not",
+            Form::And => "and",
+            Form::Or => "or",
+            Form::Implies => "implies",
+            Form::Next => "next",
+            Form::AllNext => "allnext",
+            Form::Sometime => "sometime",
+            Form::Always => "always",
+            Form::Until => "until",
+            Form::Previous => "previous",
+            Form::Once => "once",
+            Form::SoFar => "sofar",
+            Form::Since => "since",
+        })
+    }
+}
 
 /// Distances from `low` to `high`, or without an upper bound.
-#[derive(Clone, Copy)]
+// Stays: a type of its own, so that the second evaluator shares no error with the first.
+#[derive(Clone, Copy, PartialEq, Eq, Debug)]
 pub struct Bounds {
     pub low: u64,
     pub high: Option<u64>,
+}
+
+impl Bounds {
+    pub fn contain(self, distance: u64) -> bool {
+        self.low <= distance && self.high.is_none_or(|high| distance <= high)
+    }
+
+    pub fn has_edge(self, distance: u64) -> bool {
+        distance == self.low || self.high == Some(distance)
+    }
+}
+
+impl fmt::Display for Bounds {
+    fn fmt<W: fmt::Write>(&self, f: &mut fmt::Formatter<W>) -> fmt::Result {
+        let low = self.low;
+        match self.high {
+            Some(high) => write!(f, "{low} {high}"),
+            None => write!(f, "{low} end"),
+        }
+    }
+}
+
+/// A form with operands, and its window, if it has one.
+#[derive(Clone, Copy, PartialEq, Eq, Debug)]
+pub struct Operator {
+    pub form: Form,
+    pub window: Bounds,
+}
+
+impl fmt::Display for Operator {
+    fn fmt<W: fmt::Write>(&self, f: &mut fmt::Formatter<W>) -> fmt::Result {
+        let form = self.form;
+        let window = self.window;
+        if form.has_window() {
+            write!(f, "{form} {window}")
+        } else {
+            write!(f, "{form}")
+        }
+    }
 }
 
 #[derive(Drop)]
 pub enum Tree {
     /// `(true)` or a query, with the numbers of its items.
     Leaf(Form, [i64; 3]),
-    One(Form, Bounds, Box<Tree>),
-    Two(Form, Bounds, Box<Tree>, Box<Tree>),
+    One(Operator, Box<Tree>),
+    Two(Operator, Box<Tree>, Box<Tree>),
 }
 
-pub fn word(form: Form) -> &'static str {
-    match form {
-        Form::True => "true",
-        Form::Some => "some",
-        Form::Every => "every",
-        Form::Fact => "fact",
-        Form::Number => "number",
-        Form::Refer => "refer",
-        Form::Level => "level",
-        Form::Not => "not",
-        Form::And => "and",
-        Form::Or => "or",
-        Form::Implies => "implies",
-        Form::Next => "next",
-        Form::AllNext => "allnext",
-        Form::Sometime => "sometime",
-        Form::Always => "always",
-        Form::Until => "until",
-        Form::Previous => "previous",
-        Form::Once => "once",
-        Form::SoFar => "sofar",
-        Form::Since => "since",
-    }
-}
-
-/// The form with that place in the order, the last for every place beyond.
-pub fn form_at(place: u32) -> Form {
-    match place {
-        0 => Form::True,
-        1 => Form::Some,
-        2 => Form::Every,
-        3 => Form::Fact,
-        4 => Form::Number,
-        5 => Form::Refer,
-        6 => Form::Level,
-        7 => Form::Not,
-        8 => Form::And,
-        9 => Form::Or,
-        10 => Form::Implies,
-        11 => Form::Next,
-        12 => Form::AllNext,
-        13 => Form::Sometime,
-        14 => Form::Always,
-        15 => Form::Until,
-        16 => Form::Previous,
-        17 => Form::Once,
-        18 => Form::SoFar,
-        _ => Form::Since,
-    }
-}
-
-pub fn has_window(form: Form) -> bool {
-    !matches!(form, Form::Not | Form::And | Form::Or | Form::Implies)
-}
-
-fn item_count(form: Form) -> usize {
-    match form {
-        Form::True => 0,
-        Form::Refer | Form::Level => 2,
-        _ => 3,
-    }
-}
-
-fn write_number(heap: Global, text: &mut String, number: i64) -> Result<(), AllocError> {
-    let item = format!(in heap; " {number}")?;
-    text.push_str(item.as_str())
-}
-
-fn write_leaf(
-    heap: Global,
-    text: &mut String,
+fn write_leaf<W: fmt::Write>(
+    f: &mut fmt::Formatter<W>,
     form: Form,
     numbers: &[i64; 3],
-) -> Result<(), AllocError> {
-    text.push_str(word(form))?;
-    for number in numbers.iter().take(item_count(form)) {
-        write_number(heap, text, *number)?;
+) -> fmt::Result {
+    write!(f, "({form}")?;
+    for number in numbers.iter().take(form.item_count()) {
+        write!(f, " {number}")?;
     }
-    Ok(())
+    write!(f, ")")
 }
 
-/// The word and the window.
-fn write_head(
-    heap: Global,
-    text: &mut String,
-    form: Form,
-    bounds: Bounds,
-) -> Result<(), AllocError> {
-    text.push_str(word(form))?;
-    write_bounds(heap, text, form, bounds)?;
-    text.push(' ')
-}
-
-fn write_bounds(
-    heap: Global,
-    text: &mut String,
-    form: Form,
-    bounds: Bounds,
-) -> Result<(), AllocError> {
-    if !has_window(form) {
-        return Ok(());
-    }
-    let low = bounds.low;
-    let item = format!(in heap; " {low}")?;
-    text.push_str(item.as_str())?;
-    match bounds.high {
-        Some(high) => {
-            let item = format!(in heap; " {high}")?;
-            text.push_str(item.as_str())
-        }
-        None => text.push_str(" end"),
-    }
-}
-
-/// Adds the formula's text.
-pub fn write_tree(heap: Global, text: &mut String, tree: &Tree) -> Result<(), AllocError> {
-    text.push('(')?;
-    match tree {
-        Tree::Leaf(form, numbers) => {
-            write_leaf(heap, text, *form, numbers)?;
-        }
-        Tree::One(form, bounds, operand) => {
-            write_head(heap, text, *form, *bounds)?;
-            write_tree(heap, text, operand)?;
-        }
-        Tree::Two(form, bounds, first, second) => {
-            write_head(heap, text, *form, *bounds)?;
-            write_tree(heap, text, first)?;
-            text.push(' ')?;
-            write_tree(heap, text, second)?;
+impl fmt::Display for Tree {
+    fn fmt<W: fmt::Write>(&self, f: &mut fmt::Formatter<W>) -> fmt::Result {
+        match self {
+            Tree::Leaf(form, numbers) => write_leaf(f, *form, numbers),
+            Tree::One(operator, operand) => write!(f, "({operator} {operand})"),
+            Tree::Two(operator, first, second) => write!(f, "({operator} {first} {second})"),
         }
     }
-    text.push(')')
 }

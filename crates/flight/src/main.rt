@@ -4,25 +4,17 @@
 //! 4 the lines that are flown, 5 the pilot's mark that a line is on.
 #![tactic(auto)]
 
-use anyhow::anyhow;
+use anyhow::bail;
 use liststore::ListStore;
 use rules::table::Table;
 use session::{CommitRefused, Room, Session, SessionFault};
-use std::{fs, io};
+use std::{fmt, fs, io};
 use store::{Fact, Store};
 use truth::Three;
 
-fn fact(relation: u8, key: u32, value: i32) -> Fact {
-    Fact {
-        relation,
-        key,
-        value,
-    }
-}
-
 /// What became of a change: how many calls altered the store, the number of the last call that was refused, and how
 /// many alterations were undone where the change was not committed.
-#[derive(Clone, Copy)]
+#[derive(Clone, Copy, Default)]
 struct Outcome {
     altered: u32,
     refused: Option<u8>,
@@ -46,11 +38,7 @@ fn change<S: Store>(
     come: &[Fact],
     stamp: Option<u64>,
 ) -> Outcome {
-    let mut outcome = Outcome {
-        altered: 0,
-        refused: None,
-        undone: None,
-    };
+    let mut outcome = Outcome::default();
     let slip = match session.begin() {
         Ok(slip) => slip,
         Err(fault) => {
@@ -75,16 +63,22 @@ fn change<S: Store>(
     outcome
 }
 
+impl fmt::Display for Outcome {
+    fn fmt<W: fmt::Write>(&self, f: &mut fmt::Formatter<W>) -> fmt::Result {
+        let altered = self.altered;
+        write!(f, "{altered} altered")?;
+        if let Some(number) = self.refused {
+            write!(f, ", refused with {number}")?;
+        }
+        if let Some(count) = self.undone {
+            write!(f, ", {count} undone")?;
+        }
+        Ok(())
+    }
+}
+
 fn tell(rt: &HostRuntime, what: &str, outcome: Outcome) -> io::Result<()> {
-    let altered = outcome.altered;
-    print!(rt; "{what}: {altered} altered")?;
-    if let Some(number) = outcome.refused {
-        print!(rt; ", refused with {number}")?;
-    }
-    if let Some(count) = outcome.undone {
-        print!(rt; ", {count} undone")?;
-    }
-    println!(rt; "")
+    println!(rt; "{what}: {outcome}")
 }
 
 fn shown(verdict: Result<Three, SessionFault>) -> &'static str {
@@ -118,59 +112,71 @@ fn show<S: Store>(
 /// The takeoff: the first state, and a fact out of range that is refused.
 fn take_off<S: Store>(session: &mut Session<'_, S>) -> Outcome {
     let come = [
-        fact(1, 0, 98),
-        fact(2, 0, 0),
-        fact(3, 1, 0),
-        fact(3, 2, 0),
-        fact(16, 0, 0),
+        Fact::new(1, 0, 98),
+        Fact::new(2, 0, 0),
+        Fact::new(3, 1, 0),
+        Fact::new(3, 2, 0),
+        Fact::new(16, 0, 0),
     ];
     change(session, &[], &come, Some(0))
 }
 
 /// The first line: the pilot marks it, and the variance is high.
 fn first_line<S: Store>(session: &mut Session<'_, S>) -> Outcome {
-    let gone = [fact(2, 0, 0)];
-    let come = [fact(2, 0, 100), fact(5, 0, 1), fact(0, 0, 600)];
+    let gone = [Fact::new(2, 0, 0)];
+    let come = [
+        Fact::new(2, 0, 100),
+        Fact::new(5, 0, 1),
+        Fact::new(0, 0, 600),
+    ];
     change(session, &gone, &come, Some(40))
 }
 
 /// A climb that is called off: what the put found there stays.
 fn called_off<S: Store>(session: &mut Session<'_, S>) -> Outcome {
-    let gone = [fact(2, 0, 100)];
-    let come = [fact(2, 0, 140), fact(5, 0, 1)];
+    let gone = [Fact::new(2, 0, 100)];
+    let come = [Fact::new(2, 0, 140), Fact::new(5, 0, 1)];
     change(session, &gone, &come, None)
 }
 
 /// A change with the stamp of the last state, which is refused and withdrawn.
 fn too_early<S: Store>(session: &mut Session<'_, S>) -> Outcome {
-    change(session, &[], &[fact(4, 1, 0)], Some(40))
+    change(session, &[], &[Fact::new(4, 1, 0)], Some(40))
 }
 
 /// The first line is flown, and the variance comes down.
 fn line_flown<S: Store>(session: &mut Session<'_, S>) -> Outcome {
-    let gone = [fact(0, 0, 600), fact(5, 0, 1), fact(1, 0, 98)];
-    let come = [fact(0, 0, 280), fact(4, 1, 0), fact(1, 0, 61)];
+    let gone = [
+        Fact::new(0, 0, 600),
+        Fact::new(5, 0, 1),
+        Fact::new(1, 0, 98),
+    ];
+    let come = [
+        Fact::new(0, 0, 280),
+        Fact::new(4, 1, 0),
+        Fact::new(1, 0, 61),
+    ];
     change(session, &gone, &come, Some(55))
 }
 
 /// The second line is flown.
 fn last_line<S: Store>(session: &mut Session<'_, S>) -> Outcome {
-    let gone = [fact(1, 0, 61)];
-    let come = [fact(4, 2, 0), fact(1, 0, 35)];
+    let gone = [Fact::new(1, 0, 61)];
+    let come = [Fact::new(4, 2, 0), Fact::new(1, 0, 35)];
     change(session, &gone, &come, Some(110))
 }
 
 /// The landing, and then a look whether the mark of a line could still be set: a change that is not kept.
 fn land<S: Store>(session: &mut Session<'_, S>) -> Result<bool, SessionFault> {
     let slip = session.begin()?;
-    let _ = session.drop_fact(&slip, fact(2, 0, 100));
-    let _ = session.put(&slip, fact(2, 0, 0));
+    let _ = session.drop_fact(&slip, Fact::new(2, 0, 100));
+    let _ = session.put(&slip, Fact::new(2, 0, 0));
     if let Err(CommitRefused { slip, fault }) = session.commit(slip, 140) {
         let _ = session.withdraw(slip);
         return Err(fault);
     }
     let next = session.begin()?;
-    let marked = session.put(&next, fact(5, 0, 1));
+    let marked = session.put(&next, Fact::new(5, 0, 1));
     let _ = session.withdraw(next);
     marked
 }
@@ -202,7 +208,7 @@ fn fly<S: Store>(rt: &HostRuntime, session: &mut Session<'_, S>, table: &Table) 
 fn run(rt: &HostRuntime) -> anyhow::Result<()> {
     let text = fs::read(rt, "rules")?;
     let Ok(table) = Table::new(rt.alloc())?.read(text.as_slice()) else {
-        return Err(anyhow!("the rule file is faulty"));
+        bail!("the rule file is faulty");
     };
     let store = ListStore::new(rt.alloc(), 64)?;
     let room = Room::new(rt.alloc())?;

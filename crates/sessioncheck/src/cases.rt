@@ -1,162 +1,196 @@
 //! Limits from both sides, and every refusal.
-use crate::slips::*;
+use crate::calls::{Answer, Call, drop_fact, give_back, make, put};
+use crate::plain::Value;
 use crate::tally::Tally;
 use gridstore::GridStore;
 use liststore::ListStore;
 use rules::table::Table;
-use session::{Room, Session, SessionFault};
-use std::alloc::AllocError;
-use std::mem::replace;
+use session::{Room, Session, SessionFault, Slip};
+use std::alloc::{AllocError, Global};
 use store::{Fact, Store};
 
-fn fact(relation: u8, key: u32, value: i32) -> Fact {
-    Fact {
-        relation,
-        key,
-        value,
-    }
-}
-
-/// A call, and at the end what it has to answer.
+/// A call, and what it has to come to.
 #[derive(Clone, Copy)]
-enum Step {
-    Begin(u64),
-    Put(u8, u32, i32, u64),
-    Drop(u8, u32, i32, u64),
-    Commit(u64, u64),
-    Withdraw(u64),
-    Finish(u64),
-    Verdict(u8, usize, u64),
-}
+struct Step(Call, Answer);
+
+const ADDED: Answer = Answer::Altered(true);
+
+const NEITHER: Answer = Answer::Altered(false);
 
 /// After 64 alterations, facts 0 to 63 of relation 0: a 65th, and what such a change still may do.
 const CROWDED: [Step; 5] = [
-    Step::Put(0, 0, 1, 57),
-    Step::Put(0, 0, 0, 0),
-    Step::Drop(0, 0, 0, 57),
-    Step::Drop(0, 0, 1, 0),
-    Step::Withdraw(64),
+    Step(Call::Put(0, 0, 1), Answer::Refused(57)),
+    Step(Call::Put(0, 0, 0), NEITHER),
+    Step(Call::Drop(0, 0, 0), Answer::Refused(57)),
+    Step(Call::Drop(0, 0, 1), NEITHER),
+    Step(Call::Withdraw, Answer::Undone(Some(64))),
 ];
 
 /// After 64 facts that fill the store: 57 where 58 fits too, then 58.
 const FULL: [Step; 6] = [
-    Step::Put(0, 64, 0, 57),
-    Step::Commit(1, 1),
-    Step::Begin(1),
-    Step::Put(0, 64, 0, 58),
-    Step::Put(0, 63, 0, 0),
-    Step::Withdraw(0),
+    Step(Call::Put(0, 64, 0), Answer::Refused(57)),
+    Step(Call::Commit(1), Answer::Done),
+    Step(Call::Begin, Answer::Done),
+    Step(Call::Put(0, 64, 0), Answer::Refused(58)),
+    Step(Call::Put(0, 63, 0), NEITHER),
+    Step(Call::Withdraw, Answer::Undone(Some(0))),
 ];
 
 /// A withdraw leaves what a put had found there, and brings back what a drop had taken.
 const WITHDRAWS: [Step; 13] = [
-    Step::Begin(1),
-    Step::Put(1, 1, 1, 1),
-    Step::Commit(5, 1),
-    Step::Begin(1),
-    Step::Put(1, 1, 1, 0),
-    Step::Put(1, 1, 2, 1),
-    Step::Drop(1, 1, 2, 1),
-    Step::Drop(1, 1, 1, 1),
-    Step::Withdraw(3),
-    Step::Begin(1),
-    Step::Drop(1, 1, 1, 1),
-    Step::Drop(1, 1, 2, 0),
-    Step::Withdraw(1),
+    Step(Call::Begin, Answer::Done),
+    Step(Call::Put(1, 1, 1), ADDED),
+    Step(Call::Commit(5), Answer::Done),
+    Step(Call::Begin, Answer::Done),
+    Step(Call::Put(1, 1, 1), NEITHER),
+    Step(Call::Put(1, 1, 2), ADDED),
+    Step(Call::Drop(1, 1, 2), ADDED),
+    Step(Call::Drop(1, 1, 1), ADDED),
+    Step(Call::Withdraw, Answer::Undone(Some(3))),
+    Step(Call::Begin, Answer::Done),
+    Step(Call::Drop(1, 1, 1), ADDED),
+    Step(Call::Drop(1, 1, 2), NEITHER),
+    Step(Call::Withdraw, Answer::Undone(Some(1))),
 ];
 
 /// Ranges of facts and stamps; the stamp before was 5.
 const RANGES: [Step; 16] = [
-    Step::Begin(1),
-    Step::Put(16, 0, 0, 23),
-    Step::Put(0, 65_536, 0, 23),
-    Step::Put(0, 0, 1_000_000_001, 23),
-    Step::Put(0, 0, -1_000_000_001, 23),
-    Step::Drop(16, 0, 0, 23),
-    Step::Drop(0, 65_536, 0, 23),
-    Step::Drop(0, 0, 1_000_000_001, 23),
-    Step::Drop(0, 0, -1_000_000_001, 23),
-    Step::Commit(5, 55),
-    Step::Commit(4_000_000_001, 24),
-    Step::Commit(4_000_000_000, 1),
-    Step::Verdict(1, 1, 2),
-    Step::Verdict(1, 2, 59),
-    Step::Verdict(10, 0, 25),
-    Step::Verdict(0, 2, 25),
+    Step(Call::Begin, Answer::Done),
+    Step(Call::Put(16, 0, 0), Answer::Refused(23)),
+    Step(Call::Put(0, 65_536, 0), Answer::Refused(23)),
+    Step(Call::Put(0, 0, 1_000_000_001), Answer::Refused(23)),
+    Step(Call::Put(0, 0, -1_000_000_001), Answer::Refused(23)),
+    Step(Call::Drop(16, 0, 0), Answer::Refused(23)),
+    Step(Call::Drop(0, 65_536, 0), Answer::Refused(23)),
+    Step(Call::Drop(0, 0, 1_000_000_001), Answer::Refused(23)),
+    Step(Call::Drop(0, 0, -1_000_000_001), Answer::Refused(23)),
+    Step(Call::Commit(5), Answer::Refused(55)),
+    Step(Call::Commit(4_000_000_001), Answer::Refused(24)),
+    Step(Call::Commit(4_000_000_000), Answer::Done),
+    Step(Call::Verdict(1, 1), Answer::Verdict(Value::True)),
+    Step(Call::Verdict(1, 2), Answer::Refused(59)),
+    Step(Call::Verdict(10, 0), Answer::Refused(25)),
+    Step(Call::Verdict(0, 2), Answer::Refused(25)),
 ];
 
 /// Begin and finish with a change open, and after finish.
 const ENDINGS: [Step; 7] = [
-    Step::Begin(1),
-    Step::Begin(52),
-    Step::Finish(52),
-    Step::Withdraw(0),
-    Step::Finish(1),
-    Step::Finish(53),
-    Step::Begin(53),
+    Step(Call::Begin, Answer::Done),
+    Step(Call::Begin, Answer::Refused(52)),
+    Step(Call::Finish, Answer::Refused(52)),
+    Step(Call::Withdraw, Answer::Undone(Some(0))),
+    Step(Call::Finish, Answer::Done),
+    Step(Call::Finish, Answer::Refused(53)),
+    Step(Call::Begin, Answer::Refused(53)),
 ];
 
 /// After 512 states, of stamps 0 to 511.
 const NO_FURTHER: [Step; 4] = [
-    Step::Begin(1),
-    Step::Commit(512, 56),
-    Step::Commit(511, 55),
-    Step::Withdraw(0),
+    Step(Call::Begin, Answer::Done),
+    Step(Call::Commit(512), Answer::Refused(56)),
+    Step(Call::Commit(511), Answer::Refused(55)),
+    Step(Call::Withdraw, Answer::Undone(Some(0))),
 ];
 
 /// Finish with no state.
-const NO_STATE: [Step; 2] = [Step::Finish(1), Step::Verdict(1, 0, 59)];
+const NO_STATE: [Step; 2] = [
+    Step(Call::Finish, Answer::Done),
+    Step(Call::Verdict(1, 0), Answer::Refused(59)),
+];
 
-/// Makes a call with the slip that is held.
-fn act<S: Store>(session: &mut Session<'_, S>, held: &mut Held, step: Step, tally: &mut Tally) {
-    match step {
-        Step::Begin(due) => tally.answer(begin_holding(session, held), due),
-        Step::Put(r, k, v, due) => tally.answer(altered(session, held, fact(r, k, v), true), due),
-        Step::Drop(r, k, v, due) => tally.answer(altered(session, held, fact(r, k, v), false), due),
-        Step::Commit(stamp, due) => tally.answer(commit_holding(session, held, stamp), due),
-        Step::Withdraw(due) => {
-            let slip = replace(held, Held::Nothing);
-            tally.answer(give_back(session, slip), due);
+/// A store with the room of a session over it.
+#[derive(Drop)]
+struct Prepared<S> {
+    store: S,
+    room: Room,
+}
+
+impl<S: Store> Prepared<S> {
+    fn open(self, table: &Table, number: u16) -> Session<'_, S> {
+        let Prepared { store, room } = self;
+        Session::open(store, table, number, room)
+    }
+}
+
+fn list(heap: Global) -> Result<Prepared<ListStore>, AllocError> {
+    let store = ListStore::new(heap, 64)?;
+    let room = Room::new(heap)?;
+    Ok(Prepared { store, room })
+}
+
+fn grid(heap: Global) -> Result<Prepared<GridStore>, AllocError> {
+    let room = Room::new(heap)?;
+    Ok(Prepared {
+        store: GridStore::new(),
+        room,
+    })
+}
+
+/// A session with the slip that is held, and what was compared.
+struct Holder<'t, 'n, S: Store> {
+    session: Session<'t, S>,
+    held: Option<Slip>,
+    tally: &'n mut Tally,
+}
+
+impl<S: Store> Holder<'_, '_, S> {
+    fn step(&mut self, step: Step) {
+        let Step(call, due) = step;
+        let found = make(&mut self.session, &mut self.held, call);
+        self.tally.answer(found, due);
+    }
+
+    fn script(&mut self, steps: &[Step]) {
+        for step in steps {
+            self.step(*step);
         }
-        Step::Finish(due) => tally.answer(finished(session), due),
-        Step::Verdict(rule, state, due) => tally.answer(verdict(session, rule, state) as u64, due),
+    }
+
+    /// 64 facts of relation 0 in one change.
+    fn sixty_four(&mut self) {
+        self.step(Step(Call::Begin, Answer::Done));
+        for key in 0..64 {
+            self.step(Step(Call::Put(0, key, 0), ADDED));
+        }
     }
 }
 
-fn script<S: Store>(
-    session: &mut Session<'_, S>,
-    held: &mut Held,
-    steps: &[Step],
-    tally: &mut Tally,
-) {
-    for step in steps {
-        act(session, held, *step, tally);
-    }
+fn alterations<S: Store>(holder: &mut Holder<'_, '_, S>) {
+    holder.sixty_four();
+    holder.script(&CROWDED);
 }
 
-/// 64 facts of relation 0 in one change.
-fn sixty_four<S: Store>(session: &mut Session<'_, S>, held: &mut Held, tally: &mut Tally) {
-    act(session, held, Step::Begin(1), tally);
-    for key in 0..64 {
-        act(session, held, Step::Put(0, key, 0, 1), tally);
-    }
+fn chain<S: Store>(holder: &mut Holder<'_, '_, S>) {
+    holder.script(&WITHDRAWS);
+    holder.script(&RANGES);
+    holder.script(&ENDINGS);
 }
 
-/// 512 states, each in a change of its own.
-fn all_states<S: Store>(session: &mut Session<'_, S>, held: &mut Held, tally: &mut Tally) {
+/// 512 states, each in a change of its own, and no more.
+fn states<S: Store>(holder: &mut Holder<'_, '_, S>) {
     for stamp in 0..512 {
-        act(session, held, Step::Begin(1), tally);
-        act(session, held, Step::Commit(stamp, 1), tally);
+        holder.step(Step(Call::Begin, Answer::Done));
+        holder.step(Step(Call::Commit(stamp), Answer::Done));
     }
+    holder.script(&NO_FURTHER);
 }
 
 /// A million changes, and no more.
-fn all_changes<S: Store>(session: &mut Session<'_, S>, held: &mut Held, tally: &mut Tally) {
+fn changes<S: Store>(holder: &mut Holder<'_, '_, S>) {
     for _ in 0..1_000_000 {
-        act(session, held, Step::Begin(1), tally);
-        act(session, held, Step::Withdraw(0), tally);
+        holder.step(Step(Call::Begin, Answer::Done));
+        holder.step(Step(Call::Withdraw, Answer::Undone(Some(0))));
     }
-    act(session, held, Step::Begin(54), tally);
+    holder.step(Step(Call::Begin, Answer::Refused(54)));
+}
+
+fn no_state<S: Store>(holder: &mut Holder<'_, '_, S>) {
+    holder.script(&NO_STATE);
+}
+
+fn full<S: Store>(holder: &mut Holder<'_, '_, S>) {
+    holder.sixty_four();
+    holder.script(&FULL);
 }
 
 /// Slips of another session of another number, and of an earlier change of this one: `other` has the same number.
@@ -166,30 +200,30 @@ fn wrong_slips<S: Store>(
     third: &mut Session<'_, S>,
     tally: &mut Tally,
 ) {
-    let (stray, _) = begun(third);
-    let (held, _) = begun(session);
-    tally.answer(altered(session, &stray, fact(0, 0, 0), true), 51);
-    tally.answer(altered(session, &stray, fact(0, 0, 0), false), 51);
-    let (stray, answer) = commit_held(session, stray, 1);
-    tally.answer(answer, 51);
-    tally.answer(give_back(session, stray), 1000);
-    let (twin, _) = begun(other);
+    let refused = Answer::Refused(51);
+    let fact = Fact::new(0, 0, 0);
+    let mut stray = third.begin().ok();
+    let mut held = session.begin().ok();
+    tally.answer(put(session, &stray, fact), refused);
+    tally.answer(drop_fact(session, &stray, fact), refused);
+    tally.answer(make(session, &mut stray, Call::Commit(1)), refused);
+    tally.answer(give_back(session, stray), Answer::Undone(None));
+    let twin = other.begin().ok();
     // Both slips have the same two numbers, so the twin ends this change, and its own slip is then an earlier change's.
-    tally.answer(give_back(session, twin), 0);
-    let (next, answer) = begun(session);
-    tally.answer(answer, 1);
-    tally.answer(altered(session, &held, fact(0, 0, 0), true), 51);
-    let (held, answer) = commit_held(session, held, 1);
-    tally.answer(answer, 51);
-    tally.answer(give_back(session, held), 1000);
-    tally.answer(give_back(session, next), 0);
+    tally.answer(give_back(session, twin), Answer::Undone(Some(0)));
+    let mut next = None;
+    tally.answer(make(session, &mut next, Call::Begin), Answer::Done);
+    tally.answer(put(session, &held, fact), refused);
+    tally.answer(make(session, &mut held, Call::Commit(1)), refused);
+    tally.answer(give_back(session, held), Answer::Undone(None));
+    tally.answer(give_back(session, next), Answer::Undone(Some(0)));
 }
 
-/// The change number that a store's refusal has beside it, or 0.
-fn change_beside(answer: Result<bool, SessionFault>) -> u64 {
+/// The change number that a store's refusal has beside it.
+fn change_beside(answer: Result<bool, SessionFault>) -> Option<u32> {
     match answer {
-        Err(SessionFault::Store(refused)) => refused.change as u64,
-        _ => 0,
+        Err(SessionFault::Store(refused)) => Some(refused.change),
+        _ => None,
     }
 }
 
@@ -199,165 +233,102 @@ fn not_taken<S: Store>(
     other: &mut Session<'_, S>,
     tally: &mut Tally,
 ) {
-    let (held, _) = begun(session);
-    tally.answer(altered(session, &held, fact(0, 63, 63), true), 1);
-    tally.answer(altered(session, &held, fact(0, 64, 0), true), 31);
-    tally.answer(altered(session, &held, fact(0, 64, 0), false), 0);
-    tally.answer(give_back(session, held), 1);
-    let (first, _) = begun(other);
-    tally.answer(give_back(other, first), 0);
-    let (stray, _) = begun(other);
-    tally.answer(altered(session, &stray, fact(0, 64, 0), true), 31);
-    if let Held::Slip(slip) = &stray {
-        tally.answer(change_beside(session.put(slip, fact(0, 64, 0))), 2);
+    let beyond = Fact::new(0, 64, 0);
+    let held = session.begin().ok();
+    tally.answer(put(session, &held, Fact::new(0, 63, 63)), ADDED);
+    tally.answer(put(session, &held, beyond), Answer::Refused(31));
+    tally.answer(drop_fact(session, &held, beyond), NEITHER);
+    tally.answer(give_back(session, held), Answer::Undone(Some(1)));
+    let first = other.begin().ok();
+    tally.answer(give_back(other, first), Answer::Undone(Some(0)));
+    let stray = other.begin().ok();
+    tally.answer(put(session, &stray, beyond), Answer::Refused(31));
+    if let Some(slip) = &stray {
+        tally.answer(change_beside(session.put(slip, beyond)), Some(2));
     }
-    tally.answer(give_back(other, stray), 0);
+    tally.answer(give_back(other, stray), Answer::Undone(Some(0)));
 }
 
-#[derive(Clone, Copy)]
-enum Case {
-    Alterations,
-    Chain,
-    States,
-    Changes,
-    NoState,
-    Full,
+/// The rules of the sessions, and what was compared.
+#[derive(Drop)]
+struct Cases<'t, 'n> {
+    table: &'t Table,
+    tally: &'n mut Tally,
 }
 
-fn play<S: Store>(session: &mut Session<'_, S>, held: &mut Held, case: Case, tally: &mut Tally) {
-    match case {
-        Case::Alterations => {
-            sixty_four(session, held, tally);
-            script(session, held, &CROWDED, tally);
-        }
-        Case::Chain => {
-            script(session, held, &WITHDRAWS, tally);
-            script(session, held, &RANGES, tally);
-            script(session, held, &ENDINGS, tally);
-        }
-        Case::States => {
-            all_states(session, held, tally);
-            script(session, held, &NO_FURTHER, tally);
-        }
-        Case::Changes => all_changes(session, held, tally),
-        Case::NoState => script(session, held, &NO_STATE, tally),
-        Case::Full => {
-            sixty_four(session, held, tally);
-            script(session, held, &FULL, tally);
-        }
+impl Cases<'_, '_> {
+    /// One case in a session of its own.
+    fn play<S: Store + Drop, F: FnOnce(&mut Holder<'_, '_, S>)>(
+        &mut self,
+        prepared: Prepared<S>,
+        case: F,
+    )
+        requires { F.IsAlwaysCallable case }
+    {
+        let mut holder = Holder {
+            session: prepared.open(self.table, 7),
+            held: None,
+            tally: self.tally,
+        };
+        case(&mut holder);
+        let Holder {
+            mut session,
+            held,
+            tally: _,
+        } = holder;
+        let _ = give_back(&mut session, held);
+        let _ = session.close();
+    }
+
+    /// Slips of other sessions; the second session has the number of the first.
+    fn three_sessions<S: Store + Drop>(
+        &mut self,
+        first: Prepared<S>,
+        second: Prepared<S>,
+        third: Prepared<S>,
+    ) {
+        let mut session = first.open(self.table, 7);
+        let mut twin = second.open(self.table, 7);
+        let mut third = third.open(self.table, 8);
+        wrong_slips(&mut session, &mut twin, &mut third, self.tally);
+        let _ = session.close();
+        let _ = twin.close();
+        let _ = third.close();
+    }
+
+    /// What only the grid refuses.
+    fn grid_alone(&mut self, first: Prepared<GridStore>, second: Prepared<GridStore>) {
+        let mut session = first.open(self.table, 7);
+        let mut other = second.open(self.table, 8);
+        not_taken(&mut session, &mut other, self.tally);
+        let _ = session.close();
+        let _ = other.close();
+    }
+
+    /// Every case over both stores.
+    fn play_all(&mut self, heap: Global) -> Result<(), AllocError> {
+        self.play(list(heap)?, alterations);
+        self.play(grid(heap)?, alterations);
+        self.play(list(heap)?, chain);
+        self.play(grid(heap)?, chain);
+        self.play(list(heap)?, states);
+        self.play(grid(heap)?, states);
+        self.play(list(heap)?, changes);
+        self.play(grid(heap)?, changes);
+        self.play(list(heap)?, no_state);
+        self.play(grid(heap)?, no_state);
+        self.play(list(heap)?, full);
+        self.three_sessions(list(heap)?, list(heap)?, list(heap)?);
+        self.three_sessions(grid(heap)?, grid(heap)?, grid(heap)?);
+        self.grid_alone(grid(heap)?, grid(heap)?);
+        Ok(())
     }
 }
 
-/// One case in a session of its own.
-fn one<S: Store + Drop>(table: &Table, store: S, room: Room, case: Case, tally: &mut Tally) {
-    let mut session = Session::open(store, table, 7, room);
-    let mut held = Held::Nothing;
-    play(&mut session, &mut held, case, tally);
-    let _ = give_back(&mut session, held);
-    let _ = session.close();
-}
-
-/// Three stores, each with the room of a session.
-struct Three<S> {
-    stores: (S, S, S),
-    rooms: (Room, Room, Room),
-}
-
-fn rooms(rt: &HostRuntime) -> Result<(Room, Room, Room), AllocError> {
-    Ok((
-        Room::new(rt.alloc())?,
-        Room::new(rt.alloc())?,
-        Room::new(rt.alloc())?,
-    ))
-}
-
-/// Slips of other sessions; the second session has the number of the first.
-fn three_sessions<S: Store + Drop>(table: &Table, three: Three<S>, tally: &mut Tally) {
-    let Three {
-        stores: (a, b, c),
-        rooms: (x, y, z),
-    } = three;
-    let mut session = Session::open(a, table, 7, x);
-    let mut twin = Session::open(b, table, 7, y);
-    let mut third = Session::open(c, table, 8, z);
-    wrong_slips(&mut session, &mut twin, &mut third, tally);
-    let _ = session.close();
-    let _ = twin.close();
-    let _ = third.close();
-}
-
-/// What only the grid refuses.
-fn grid_alone(table: &Table, x: Room, y: Room, tally: &mut Tally) {
-    let mut session = Session::open(GridStore::new(), table, 7, x);
-    let mut other = Session::open(GridStore::new(), table, 8, y);
-    not_taken(&mut session, &mut other, tally);
-    let _ = session.close();
-    let _ = other.close();
-}
-
-fn on_list(
-    rt: &HostRuntime,
-    table: &Table,
-    case: Case,
-    tally: &mut Tally,
-) -> Result<(), AllocError> {
-    one(
-        table,
-        ListStore::new(rt.alloc(), 64)?,
-        Room::new(rt.alloc())?,
-        case,
-        tally,
-    );
-    Ok(())
-}
-
-fn on_grid(
-    rt: &HostRuntime,
-    table: &Table,
-    case: Case,
-    tally: &mut Tally,
-) -> Result<(), AllocError> {
-    one(table, GridStore::new(), Room::new(rt.alloc())?, case, tally);
-    Ok(())
-}
-
-/// Every case over both stores.
+/// Every case over both stores, and a line that says how many answers were compared.
 pub fn both_stores(rt: &HostRuntime, table: &Table, tally: &mut Tally) -> anyhow::Result<()> {
-    for case in [
-        Case::Alterations,
-        Case::Chain,
-        Case::States,
-        Case::Changes,
-        Case::NoState,
-    ] {
-        on_list(rt, table, case, tally)?;
-        on_grid(rt, table, case, tally)?;
-    }
-    on_list(rt, table, Case::Full, tally)?;
-    let heap = rt.alloc();
-    let lists = (
-        ListStore::new(heap, 64)?,
-        ListStore::new(heap, 64)?,
-        ListStore::new(heap, 64)?,
-    );
-    three_sessions(
-        table,
-        Three {
-            stores: lists,
-            rooms: rooms(rt)?,
-        },
-        tally,
-    );
-    let grids = (GridStore::new(), GridStore::new(), GridStore::new());
-    three_sessions(
-        table,
-        Three {
-            stores: grids,
-            rooms: rooms(rt)?,
-        },
-        tally,
-    );
-    grid_alone(table, Room::new(heap)?, Room::new(heap)?, tally);
+    let mut cases = Cases { table, tally };
+    cases.play_all(rt.alloc())?;
     let answers = tally.answers;
     println!(rt; "limits and refusals over both stores: {answers} answers compared")?;
     Ok(())

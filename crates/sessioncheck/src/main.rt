@@ -2,14 +2,14 @@
 //! what was compared.
 #![tactic(auto)]
 
+mod calls;
 mod cases;
 mod model;
 mod plain;
 mod rounds;
-mod slips;
 mod tally;
 
-use anyhow::anyhow;
+use anyhow::{bail, ensure};
 use cases::both_stores;
 use rounds::random_rounds;
 use rules::table::Table;
@@ -29,16 +29,14 @@ const RULES: &[u8] = b"(rule 1 (implies (some 0 5 9) (sometime 0 7 (every 0 0 4)
 
 fn run(rt: &HostRuntime) -> anyhow::Result<()> {
     let Ok(table) = Table::new(rt.alloc())?.read(RULES) else {
-        return Err(anyhow!("the rules are faulty"));
+        bail!("the rules are faulty");
     };
-    let mut tally = Tally::new();
+    let mut tally = Tally::default();
     both_stores(rt, &table, &mut tally)?;
     random_rounds(rt, &table, &mut tally)?;
     let wrong = tally.wrong;
     println!(rt; "wrong: {wrong}")?;
-    if wrong > 0 {
-        return Err(anyhow!("the two sessions differ"));
-    }
+    ensure!(wrong == 0, "the two sessions differ");
     Ok(())
 }
 

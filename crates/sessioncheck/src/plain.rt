@@ -1,11 +1,39 @@
-//! A second evaluator, by the words of the language alone: 0 is false, 1 undecided, 2 true.
+//! A second evaluator, by the words of the language alone: and is the least value, or is the greatest.
 
 use std::alloc::{AllocError, Global};
+use std::ops::Not;
 
-/// A window without an upper bound.
-pub const NONE: u64 = u64::MAX;
+/// From the least to the greatest.
+// Stays: a type of its own, so that this evaluator shares no error with the other check's.
+#[derive(Clone, Copy, PartialEq, Eq, PartialOrd, Ord)]
+pub enum Value {
+    False,
+    Undecided,
+    True,
+}
 
-/// The formulas of the rules, each after its parts; a leaf is the number of a query.
+impl From<bool> for Value {
+    fn from(truth: bool) -> Value {
+        if truth { Value::True } else { Value::False }
+    }
+}
+
+// Stays: values of its own and what they are made of, so that this evaluator shares no error with another.
+impl Not for Value {
+    type Output = Value;
+
+    fn not(self) -> Value {
+        match self {
+            Value::False => Value::True,
+            Value::Undecided => Value::Undecided,
+            Value::True => Value::False,
+        }
+    }
+}
+
+/// The formulas of the rules, each after its parts; a leaf is the number of a query. A window has its lower bound and,
+/// if there is one, its upper bound.
+// Stays: the formulas are one table of constants, in whose order their columns stand; boxes would have to be made first.
 #[derive(Clone, Copy)]
 pub enum Formula {
     Yes,
@@ -13,15 +41,15 @@ pub enum Formula {
     Not(usize),
     And(usize, usize),
     Or(usize, usize),
-    Next(u64, u64, usize),
-    Sometime(u64, u64, usize),
-    Until(u64, u64, usize, usize),
-    Previous(u64, u64, usize),
-    Since(u64, u64, usize, usize),
+    Next(u64, Option<u64>, usize),
+    Sometime(u64, Option<u64>, usize),
+    Until(u64, Option<u64>, usize, usize),
+    Previous(u64, Option<u64>, usize),
+    Since(u64, Option<u64>, usize, usize),
 }
 
 /// The six queries are formulas 0 to 5; each comment names the formula below it.
-pub const FORMULAS: [Formula; 33] = [
+const FORMULAS: [Formula; 31] = [
     Formula::Leaf(0),
     Formula::Leaf(1),
     Formula::Leaf(2),
@@ -31,188 +59,190 @@ pub const FORMULAS: [Formula; 33] = [
     // 6: true
     Formula::Yes,
     // 7 to 9: rule 1, an implication
-    Formula::Sometime(0, 7, 1),
+    Formula::Sometime(0, Some(7), 1),
     Formula::Not(0),
     Formula::Or(8, 7),
     // 10 to 12: rule 2, an always
     Formula::Not(2),
-    Formula::Sometime(0, 10, 10),
+    Formula::Sometime(0, Some(10), 10),
     Formula::Not(11),
     // 13: rule 3
-    Formula::Until(0, 8, 3, 4),
+    Formula::Until(0, Some(8), 3, 4),
     // 14: rule 4
-    Formula::Next(1, 4, 5),
+    Formula::Next(1, Some(4), 5),
     // 15 to 17: rule 5, an allnext
     Formula::Not(4),
-    Formula::Next(0, 3, 15),
+    Formula::Next(0, Some(3), 15),
     Formula::Not(16),
     // 18: rule 6
-    Formula::Since(0, 9, 2, 0),
+    Formula::Since(0, Some(9), 2, 0),
     // 19 to 23: rule 7
-    Formula::Since(2, 6, 6, 4),
+    Formula::Since(2, Some(6), 6, 4),
     Formula::Not(1),
-    Formula::Since(0, 5, 6, 20),
+    Formula::Since(0, Some(5), 6, 20),
     Formula::Not(21),
     Formula::And(19, 22),
     // 24 to 29: rule 8
-    Formula::Previous(0, 3, 3),
+    Formula::Previous(0, Some(3), 3),
     Formula::Not(5),
-    Formula::Sometime(0, NONE, 25),
+    Formula::Sometime(0, None, 25),
     Formula::Not(26),
     Formula::Not(27),
     Formula::Or(24, 28),
     // 30: rule 9
-    Formula::Sometime(1, NONE, 6),
-    Formula::Yes,
-    Formula::Yes,
+    Formula::Sometime(1, None, 6),
 ];
 
 /// The formula of each rule, from rule 1 on.
-pub const ROOTS: [usize; 9] = [9, 12, 13, 14, 17, 18, 23, 29, 30];
+const ROOTS: [usize; 9] = [9, 12, 13, 14, 17, 18, 23, 29, 30];
 
-/// A record: the stamps, six answers for each state, and whether it is finished.
+/// A state: its stamp, and the answers of the six queries.
+#[derive(Clone, Copy)]
+pub struct State {
+    pub stamp: u64,
+    pub answers: [bool; 6],
+}
+
+/// The states of a record.
 #[derive(Clone, Copy)]
 pub struct Record<'a> {
-    pub stamps: &'a [u64],
-    pub leaves: &'a [bool],
-    pub finished: bool,
+    pub states: &'a [State],
+    /// What is left open at the end.
+    pub end: Value,
 }
 
-fn stamp(r: Record<'_>, i: usize) -> u64 {
-    r.stamps.get(i).copied().unwrap_or(0)
+/// The values of the formulas before, formula by formula, and the states that they are the values at.
+#[derive(Clone, Copy)]
+struct Before<'a> {
+    columns: &'a [Vec<Value>],
+    record: Record<'a>,
 }
 
-fn within(low: u64, high: u64, distance: u64) -> bool {
-    low <= distance && distance <= high
+/// The least distance, and the greatest where there is one.
+// Stays: a type of its own, so that this evaluator shares no error with the other check's.
+#[derive(Clone, Copy)]
+struct Window {
+    low: u64,
+    high: Option<u64>,
 }
 
-fn leaf(r: Record<'_>, query: usize, i: usize) -> u8 {
-    let place = i.saturating_mul(6).saturating_add(query);
-    if r.leaves.get(place).copied().unwrap_or(false) {
-        2
-    } else {
-        0
+impl Before<'_> {
+    fn count(self) -> usize {
+        self.record.states.len()
     }
-}
 
-/// The value of formula `f` at state `i`, among the columns of the formulas before.
-fn at(columns: &[u8], states: usize, f: usize, i: usize) -> u8 {
-    columns
-        .get(f.saturating_mul(states).saturating_add(i))
-        .copied()
-        .unwrap_or(1)
-}
-
-fn open_mark(r: Record<'_>, high: u64, i: usize) -> u8 {
-    let last = stamp(r, r.stamps.len().saturating_sub(1));
-    if r.finished || (high != NONE && last.saturating_sub(stamp(r, i)) >= high) {
-        0
-    } else {
-        1
+    fn stamp(self, i: usize) -> u64 {
+        self.record.states.get(i).map_or(0, |state| state.stamp)
     }
-}
 
-fn sometime(r: Record<'_>, columns: &[u8], low: u64, high: u64, f: usize, i: usize) -> u8 {
-    let n = r.stamps.len();
-    let mut value = open_mark(r, high, i);
-    for j in i..n {
-        if within(low, high, stamp(r, j).saturating_sub(stamp(r, i))) {
-            value = value.max(at(columns, n, f, j));
+    fn leaf(self, query: usize, i: usize) -> Value {
+        let state = self.record.states.get(i);
+        Value::from(state.is_some_and(|state| state.answers.get(query).copied().unwrap_or(false)))
+    }
+
+    fn at(self, f: usize, i: usize) -> Value {
+        let value = self.columns.get(f).and_then(|column| column.get(i));
+        value.copied().unwrap_or(Value::Undecided)
+    }
+
+    /// The least value of `f` at the states from `first` to before `end`.
+    fn least(self, f: usize, first: usize, end: usize) -> Value {
+        (first..end).fold(Value::True, |value, k| value.min(self.at(f, k)))
+    }
+
+    /// Whether the time from one state to a later one lies in the window.
+    fn is_within(self, w: Window, from: usize, to: usize) -> bool {
+        let distance = self.stamp(to).saturating_sub(self.stamp(from));
+        w.low <= distance && w.high.is_none_or(|high| distance <= high)
+    }
+
+    fn open_mark(self, w: Window, i: usize) -> Value {
+        let last = self.stamp(self.count().saturating_sub(1));
+        let passed = last.saturating_sub(self.stamp(i));
+        if w.high.is_some_and(|high| passed >= high) {
+            Value::False
+        } else {
+            self.record.end
         }
     }
-    value
-}
 
-/// The least value of `f` at the states from `first` to before `end`.
-fn least(columns: &[u8], n: usize, f: usize, first: usize, end: usize) -> u8 {
-    let mut value = 2u8;
-    for k in first..end {
-        value = value.min(at(columns, n, f, k));
+    // Stays: a struct of window and state would be built anew for each call, as the state changes with each.
+    fn sometime(self, w: Window, f: usize, i: usize) -> Value {
+        (i..self.count())
+            .filter(|j| self.is_within(w, i, *j))
+            .fold(self.open_mark(w, i), |value, j| value.max(self.at(f, j)))
     }
-    value
-}
 
-fn until(r: Record<'_>, columns: &[u8], window: (u64, u64), f: usize, g: usize, i: usize) -> u8 {
-    let n = r.stamps.len();
-    let mut value = least(columns, n, f, i, n).min(open_mark(r, window.1, i));
-    for j in i..n {
-        if within(window.0, window.1, stamp(r, j).saturating_sub(stamp(r, i))) {
-            value = value.max(at(columns, n, g, j).min(least(columns, n, f, i, j)));
+    fn until(self, w: Window, f: usize, g: usize, i: usize) -> Value {
+        let kept = self.least(f, i, self.count());
+        (i..self.count())
+            .filter(|j| self.is_within(w, i, *j))
+            .fold(kept.min(self.open_mark(w, i)), |value, j| {
+                value.max(self.at(g, j).min(self.least(f, i, j)))
+            })
+    }
+
+    fn since(self, w: Window, f: usize, g: usize, i: usize) -> Value {
+        let end = i.saturating_add(1);
+        (0..end)
+            .filter(|j| self.is_within(w, *j, i))
+            .fold(Value::False, |value, j| {
+                value.max(self.at(g, j).min(self.least(f, j.saturating_add(1), end)))
+            })
+    }
+
+    fn next(self, w: Window, f: usize, i: usize) -> Value {
+        let j = i.saturating_add(1);
+        if j >= self.count() {
+            self.open_mark(w, i)
+        } else if self.is_within(w, i, j) {
+            self.at(f, j)
+        } else {
+            Value::False
         }
     }
-    value
-}
 
-fn since(r: Record<'_>, columns: &[u8], window: (u64, u64), f: usize, g: usize, i: usize) -> u8 {
-    let n = r.stamps.len();
-    let mut value = 0u8;
-    for j in 0..i.saturating_add(1) {
-        if within(window.0, window.1, stamp(r, i).saturating_sub(stamp(r, j))) {
-            let kept = least(columns, n, f, j.saturating_add(1), i.saturating_add(1));
-            value = value.max(at(columns, n, g, j).min(kept));
+    fn previous(self, w: Window, f: usize, i: usize) -> Value {
+        match i.checked_sub(1) {
+            Some(j) if self.is_within(w, j, i) => self.at(f, j),
+            _ => Value::False,
         }
     }
-    value
-}
 
-fn next(r: Record<'_>, columns: &[u8], low: u64, high: u64, f: usize, i: usize) -> u8 {
-    let n = r.stamps.len();
-    let j = i.saturating_add(1);
-    if j >= n {
-        return open_mark(r, high, i);
-    }
-    if within(low, high, stamp(r, j).saturating_sub(stamp(r, i))) {
-        at(columns, n, f, j)
-    } else {
-        0
-    }
-}
-
-fn previous(r: Record<'_>, columns: &[u8], low: u64, high: u64, f: usize, i: usize) -> u8 {
-    if i == 0 {
-        return 0;
-    }
-    let j = i - 1;
-    let n = r.stamps.len();
-    if within(low, high, stamp(r, i).saturating_sub(stamp(r, j))) {
-        at(columns, n, f, j)
-    } else {
-        0
-    }
-}
-
-fn value(r: Record<'_>, columns: &[u8], formula: Formula, i: usize) -> u8 {
-    let n = r.stamps.len();
-    match formula {
-        Formula::Yes => 2,
-        Formula::Leaf(q) => leaf(r, q, i),
-        Formula::Not(f) => 2u8.saturating_sub(at(columns, n, f, i)),
-        Formula::And(f, g) => at(columns, n, f, i).min(at(columns, n, g, i)),
-        Formula::Or(f, g) => at(columns, n, f, i).max(at(columns, n, g, i)),
-        Formula::Next(low, high, f) => next(r, columns, low, high, f, i),
-        Formula::Sometime(low, high, f) => sometime(r, columns, low, high, f, i),
-        Formula::Until(low, high, f, g) => until(r, columns, (low, high), f, g, i),
-        Formula::Previous(low, high, f) => previous(r, columns, low, high, f, i),
-        Formula::Since(low, high, f, g) => since(r, columns, (low, high), f, g, i),
+    fn value(self, formula: Formula, i: usize) -> Value {
+        match formula {
+            Formula::Yes => Value::True,
+            Formula::Leaf(query) => self.leaf(query, i),
+            Formula::Not(f) => !self.at(f, i),
+            Formula::And(f, g) => self.at(f, i).min(self.at(g, i)),
+            Formula::Or(f, g) => self.at(f, i).max(self.at(g, i)),
+            Formula::Next(low, high, f) => self.next(Window { low, high }, f, i),
+            Formula::Sometime(low, high, f) => self.sometime(Window { low, high }, f, i),
+            Formula::Until(low, high, f, g) => self.until(Window { low, high }, f, g, i),
+            Formula::Previous(low, high, f) => self.previous(Window { low, high }, f, i),
+            Formula::Since(low, high, f, g) => self.since(Window { low, high }, f, g, i),
+        }
     }
 }
 
 /// The values of every formula at every state, formula by formula.
-pub fn evaluate(heap: Global, r: Record<'_>) -> Result<Vec<u8>, AllocError> {
-    let mut columns = Vec::new(heap);
+pub fn evaluate(heap: Global, record: Record<'_>) -> Result<Vec<Vec<Value>>, AllocError> {
+    let mut columns = Vec::with_capacity(heap, FORMULAS.len())?;
     for formula in FORMULAS {
-        for i in 0..r.stamps.len() {
-            let v = value(r, columns.as_slice(), formula, i);
-            columns.push(v)?;
-        }
+        let before = Before {
+            columns: columns.as_slice(),
+            record,
+        };
+        let states = 0..record.states.len();
+        let column = states.map(|i| before.value(formula, i)).collect(heap)?;
+        columns.push(column)?;
     }
     Ok(columns)
 }
 
 /// The value of rule `number`, from 1 on, at state `i`.
-pub fn rule_value(columns: &[u8], states: usize, number: u8, i: usize) -> u8 {
-    let Some(root) = ROOTS.get((number as usize).saturating_sub(1)) else {
-        return 3;
-    };
-    at(columns, states, *root, i)
+pub fn rule_value(columns: &[Vec<Value>], number: u8, i: usize) -> Option<Value> {
+    let rule = usize::from(number).checked_sub(1)?;
+    let root = ROOTS.get(rule)?;
+    columns.get(*root)?.get(i).copied()
 }

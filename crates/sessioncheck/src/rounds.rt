@@ -1,211 +1,163 @@
 //! Random calls on a session and on the model.
+use crate::calls::{Answer, Call, give_back, make, verdict};
 use crate::model::Model;
 use crate::plain::{evaluate, rule_value};
-use crate::slips::*;
 use crate::tally::Tally;
 use gridstore::GridStore;
 use liststore::ListStore;
 use random::Generator;
 use rules::table::Table;
-use session::{Room, Session};
+use session::{Room, Session, Slip};
 use std::alloc::{AllocError, Global};
-use std::mem::replace;
 use store::{Fact, Store};
 
 /// A fact of few relations, keys and values, now and then one that is out of range or that the grid does not take.
-fn some_fact(draw: &mut Generator) -> Fact {
-    let relation = draw.below(3) as u8;
-    let key = draw.below(3) as u32;
-    let value = draw.below(8) as i32;
-    match draw.below(40) {
+fn some_fact(generator: &mut Generator) -> Fact {
+    let fact = Fact {
+        relation: generator.below(3) as u8,
+        key: generator.below(3) as u32,
+        value: generator.below(8) as i32,
+    };
+    match generator.below(40) {
         0 => Fact {
             relation: 16,
-            key,
-            value,
+            ..fact
         },
         1 => Fact {
-            relation,
             key: 65_536,
-            value,
+            ..fact
         },
-        2 => Fact {
-            relation,
-            key: 64,
-            value,
-        },
-        3 => Fact {
-            relation,
-            key,
-            value: -1,
-        },
-        _ => Fact {
-            relation,
-            key,
-            value,
-        },
+        2 => Fact { key: 64, ..fact },
+        3 => Fact { value: -1, ..fact },
+        _ => fact,
     }
 }
 
-/// Every rule at every state, and one state more.
-fn verdicts<S: Store>(
+/// A run of calls: what both sessions are, the slip of the open change, the slip of another session, the source of the
+/// calls, and what was compared.
+struct Round<'t, 'n, S: Store> {
     heap: Global,
-    session: &Session<'_, S>,
-    model: &Model,
-    tally: &mut Tally,
-) -> Result<(), AllocError> {
-    let record = model.record();
-    let states = record.stamps.len();
-    let columns = evaluate(heap, record)?;
-    for number in 1..10u8 {
-        for i in 0..states {
-            tally.verdict(
-                verdict(session, number, i),
-                rule_value(columns.as_slice(), states, number, i),
-            );
-        }
-        tally.answer(verdict(session, number, states) as u64, 59);
-    }
-    Ok(())
-}
-
-/// A run of calls: what both are, the slip of the open change, and the slip of another session.
-struct Round<'t, S: Store> {
     session: Session<'t, S>,
     model: Model,
-    held: Held,
-    stray: Held,
+    held: Option<Slip>,
+    stray: Option<Slip>,
+    generator: &'n mut Generator,
+    tally: &'n mut Tally,
 }
 
-/// A put or a drop, now and then with the other session's slip.
-fn alter<S: Store>(
-    heap: Global,
-    round: &mut Round<'_, S>,
-    draw: &mut Generator,
-    put: bool,
-    tally: &mut Tally,
-) -> Result<(), AllocError> {
-    let fact = some_fact(draw);
-    let own = draw.below(12) > 0;
-    let found = if own {
-        altered(&mut round.session, &round.held, fact, put)
-    } else {
-        altered(&mut round.session, &round.stray, fact, put)
-    };
-    if found == 2000 {
-        return Ok(());
+impl<S: Store> Round<'_, '_, S> {
+    /// Every rule at every state, and one state more.
+    fn verdicts(&mut self) -> Result<(), AllocError> {
+        let record = self.model.record();
+        let states = record.states.len();
+        let columns = evaluate(self.heap, record)?;
+        for number in 1..10u8 {
+            for state in 0..states {
+                let expected = rule_value(columns.as_slice(), number, state);
+                self.tally
+                    .verdict(verdict(&self.session, number, state), expected);
+            }
+            let beyond = verdict(&self.session, number, states);
+            self.tally.answer(beyond, Answer::Refused(59));
+        }
+        Ok(())
     }
-    let expected = if put {
-        round.model.put(own, fact)?
-    } else {
-        round.model.remove(heap, own, fact)?
-    };
-    tally.answer(found, expected);
-    Ok(())
-}
 
-fn begin<S: Store>(
-    heap: Global,
-    round: &mut Round<'_, S>,
-    tally: &mut Tally,
-) -> Result<(), AllocError> {
-    let found = begin_holding(&mut round.session, &mut round.held);
-    tally.answer(found, round.model.begin(heap)?);
-    Ok(())
-}
-
-/// A stamp that is mostly later than the last.
-fn commit<S: Store>(
-    heap: Global,
-    round: &mut Round<'_, S>,
-    draw: &mut Generator,
-    tally: &mut Tally,
-) -> Result<(), AllocError> {
-    let last = round.model.record().stamps.last().copied().unwrap_or(0);
-    let stamp = last.saturating_add(draw.below(6) as u64);
-    let found = commit_holding(&mut round.session, &mut round.held, stamp);
-    if found == 2000 {
-        return Ok(());
+    /// A call with the slip that is held; nothing is compared where it needs one and none is held.
+    fn call(&mut self, call: Call) -> Result<(), AllocError> {
+        let found = make(&mut self.session, &mut self.held, call);
+        if found != Answer::NoSlip {
+            let expected = self.model.make(call)?;
+            self.tally.answer(found, expected);
+        }
+        Ok(())
     }
-    tally.answer(found, round.model.commit(true, stamp)?);
-    verdicts(heap, &round.session, &round.model, tally)
-}
 
-fn withdraw<S: Store>(
-    heap: Global,
-    round: &mut Round<'_, S>,
-    tally: &mut Tally,
-) -> Result<(), AllocError> {
-    let held = replace(&mut round.held, Held::Nothing);
-    let found = give_back(&mut round.session, held);
-    tally.answer(found, round.model.withdraw(heap, true)?);
-    Ok(())
-}
+    /// A put or a drop, now and then with the other session's slip.
+    fn alter(&mut self, call: Call) -> Result<(), AllocError> {
+        if self.generator.below(12) > 0 {
+            return self.call(call);
+        }
+        let found = make(&mut self.session, &mut self.stray, call);
+        if found != Answer::NoSlip {
+            self.tally.answer(found, self.model.astray(call));
+        }
+        Ok(())
+    }
 
-/// One call.
-fn step<S: Store>(
-    heap: Global,
-    round: &mut Round<'_, S>,
-    draw: &mut Generator,
-    tally: &mut Tally,
-) -> Result<(), AllocError> {
-    match draw.below(20) {
-        0..=2 => begin(heap, round, tally),
-        3..=11 => alter(heap, round, draw, true, tally),
-        12..=14 => alter(heap, round, draw, false, tally),
-        15..=18 => commit(heap, round, draw, tally),
-        _ => withdraw(heap, round, tally),
+    /// A stamp that is mostly later than the last.
+    fn commit(&mut self) -> Result<(), AllocError> {
+        let last = self.model.last_stamp().unwrap_or(0);
+        let stamp = last.saturating_add(self.generator.below(6) as u64);
+        if self.held.is_none() {
+            return Ok(());
+        }
+        self.call(Call::Commit(stamp))?;
+        self.verdicts()
+    }
+
+    /// One call.
+    fn step(&mut self) -> Result<(), AllocError> {
+        match self.generator.below(20) {
+            0..=2 => self.call(Call::Begin)?,
+            3..=11 => {
+                let fact = some_fact(self.generator);
+                self.alter(Call::Put(fact.relation, fact.key, fact.value))?;
+            }
+            12..=14 => {
+                let fact = some_fact(self.generator);
+                self.alter(Call::Drop(fact.relation, fact.key, fact.value))?;
+            }
+            15..=18 => self.commit()?,
+            _ => self.call(Call::Withdraw)?,
+        }
+        Ok(())
+    }
+
+    /// Some calls, a finish, and every verdict once more.
+    fn play(&mut self) -> Result<(), AllocError> {
+        for _ in 0..160 {
+            self.step()?;
+        }
+        for call in [Call::Finish, Call::Withdraw, Call::Finish, Call::Begin] {
+            self.call(call)?;
+        }
+        self.verdicts()
     }
 }
 
-/// Some calls, a finish, and every verdict once more.
-fn play<S: Store>(
-    heap: Global,
-    round: &mut Round<'_, S>,
-    draw: &mut Generator,
-    tally: &mut Tally,
-) -> Result<(), AllocError> {
-    for _ in 0..160 {
-        step(heap, round, draw, tally)?;
-    }
-    tally.answer(finished(&mut round.session), round.model.finish());
-    withdraw(heap, round, tally)?;
-    tally.answer(finished(&mut round.session), round.model.finish());
-    begin(heap, round, tally)?;
-    verdicts(heap, &round.session, &round.model, tally)
-}
-
-/// Two stores with the rooms of their sessions.
-struct Pair<S> {
-    stores: (S, S),
-    rooms: (Room, Room),
-}
-
+/// A round in a session over the first store, with the slip of a session over the second.
 fn one_round<S: Store + Drop>(
     heap: Global,
     table: &Table,
-    pair: Pair<S>,
+    stores: (S, S),
     model: Model,
-    draw: &mut Generator,
+    generator: &mut Generator,
     tally: &mut Tally,
 ) -> Result<(), AllocError> {
-    let Pair {
-        stores: (a, b),
-        rooms: (x, y),
-    } = pair;
-    let mut other = Session::open(b, table, 9, y);
-    let (stray, _) = begun(&mut other);
+    let room = Room::new(heap)?;
+    let other_room = Room::new(heap)?;
+    let (store, other_store) = stores;
+    let mut other = Session::open(other_store, table, 9, other_room);
+    let stray = other.begin().ok();
     let mut round = Round {
-        session: Session::open(a, table, 7, x),
+        heap,
+        session: Session::open(store, table, 7, room),
         model,
-        held: Held::Nothing,
+        held: None,
         stray,
+        generator,
+        tally,
     };
-    let played = play(heap, &mut round, draw, tally);
+    let played = round.play();
     let Round {
+        heap: _,
         session,
         model: _,
         held,
         stray,
+        generator: _,
+        tally: _,
     } = round;
     let _ = give_back(&mut other, held);
     let _ = give_back(&mut other, stray);
@@ -217,35 +169,15 @@ fn one_round<S: Store + Drop>(
 /// Random rounds over both stores.
 pub fn random_rounds(rt: &HostRuntime, table: &Table, tally: &mut Tally) -> anyhow::Result<()> {
     let heap = rt.alloc();
-    let mut draw = Generator::new(20_261_118);
+    let mut generator = Generator::new(20_261_118);
     let before = tally.answers;
     for _ in 0..40 {
         let lists = (ListStore::new(heap, 9)?, ListStore::new(heap, 9)?);
-        let pair = Pair {
-            stores: lists,
-            rooms: (Room::new(heap)?, Room::new(heap)?),
-        };
-        one_round(
-            heap,
-            table,
-            pair,
-            Model::new(heap, 65_536, 9),
-            &mut draw,
-            tally,
-        )?;
+        let model = Model::of_list(heap, 9);
+        one_round(heap, table, lists, model, &mut generator, tally)?;
         let grids = (GridStore::new(), GridStore::new());
-        let pair = Pair {
-            stores: grids,
-            rooms: (Room::new(heap)?, Room::new(heap)?),
-        };
-        one_round(
-            heap,
-            table,
-            pair,
-            Model::new(heap, 64, 65_536),
-            &mut draw,
-            tally,
-        )?;
+        let model = Model::of_grid(heap);
+        one_round(heap, table, grids, model, &mut generator, tally)?;
     }
     let answers = tally.answers.wrapping_sub(before);
     let (falses, open, trues) = (tally.falses, tally.open, tally.trues);
