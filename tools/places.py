@@ -3,14 +3,19 @@
 
     python3 tools/places.py [FOLDER] [--list] [--point N]
 
-FOLDER is a checkout (default: the one this file lies in). A place counts as kept where a comment
-line '// Stays: REASON' stands in the item that holds it, or right above that item. --list prints each place.
+FOLDER is a checkout (default: the one this file lies in). A place counts as kept where a comment line
+'// Stays: REASON' stands in the item that holds it, right above that item, or right above its impl; each such line
+serves the places of one rule. --list prints each place.
 """
 import collections
 import os
 import re
 import sys
 
+WIDER = {'u8': ('u16', 'u32', 'u64', 'usize', 'i32', 'i64'), 'u16': ('u32', 'u64', 'i64', 'usize'), 'u32': ('u64', 'i64'),
+         'i32': ('i64',), 'bool': ('u8', 'u32', 'u64', 'usize')}
+# Parameters of type bool that are values: they are combined, compared, chosen by or printed, and pick no step.
+VALUES = ('other', 'right', 'same', 'holds', 'truth', 'test', 'answer', 'pick')
 KEYWORDS = set('''fn pub let mut if else match for in while loop return struct enum impl trait use mod const self Self
     true false where as ref move break continue crate unsafe dyn super type static'''.split())
 TOKEN = re.compile(r"'[a-z_]\w*\b(?!')|b?'(?:\\.|[^'\\])+'|b?\"(?:\\.|[^\"\\])*\"|\d[\w.]*|\w+|\S")
@@ -25,11 +30,33 @@ class Item:
         while above > 0 and re.match(r'\s*(//|#\[)', lines[above - 1]):
             above -= 1
         self.whole = '\n'.join(lines[above:last + 1])
+        # A reason right above an impl holds for the functions in it.
+        outer = first
+        while outer > 0 and lines[first].startswith(' ') and not lines[outer].startswith('impl'):
+            outer -= 1
+        top = outer
+        while top > 0 and lines[top - 1].startswith('//'):
+            top -= 1
+        self.impl = (path, outer)
+        self.impl_reasons = sum(l.startswith('// Stays: ') for l in lines[top:outer]) if outer < first else 0
+        self.reasons = self.whole.count('// Stays: ')
         self.code = '\n'.join(l for l in lines[first:last + 1]
                               if not re.match(r'\s*(//|requires |ensures |ghost )', l))
         self.clauses = [re.sub(r'^\s*requires (\w+ )?\{ (.*) \}.*$', r'\2', l)
                         for l in lines[first:last + 1] if re.match(r'\s*requires ', l)]
-        self.stays = '// Stays: ' in self.whole
+        self.code = '\n'.join(l for l in lines[first:last + 1]
+                              if not re.match(r'\s*(//|requires |ensures |ghost )', l))
+        self.clauses = [re.sub(r'^\s*requires (\w+ )?\{ (.*) \}.*$', r'\2', l)
+                        for l in lines[first:last + 1] if re.match(r'\s*requires ', l)]
+        # A reason right above an impl holds for the functions in it.
+        outer = first
+        while outer > 0 and lines[first].startswith(' ') and not lines[outer].startswith('impl'):
+            outer -= 1
+        top = outer
+        while top > 0 and lines[top - 1].startswith('//'):
+            top -= 1
+        inherited = lines[top:outer] if outer < first else []
+        self.stays = '// Stays: ' in self.whole or any(l.startswith('// Stays: ') for l in inherited)
 
 
 def end_of(lines, first):
@@ -87,32 +114,59 @@ def main():
     found = collections.OrderedDict()
 
     def add(rule, item, line, text):
-        found.setdefault(rule, []).append((os.path.relpath(item.path, root), line + 1, text, item.stays))
+        found.setdefault(rule, []).append((item, line + 1, text))
+
+    # Each reason serves one rule of its item, or of its impl.
+    served = collections.defaultdict(set)
+
+    def has_reason(rule, item):
+        for key, reasons in ((item.path, item.first), item.reasons), (item.impl, item.impl_reasons):
+            if rule in served[key]:
+                return True
+            if len(served[key]) < reasons:
+                served[key].add(rule)
+                return True
+        return False
 
     items = []
-    for crate in sorted(os.listdir(os.path.join(root, 'crates'))):
+    # Libraries before what stands on them, so that the second of two twins is the later one.
+    order = re.findall(r'^(\w+):(.*)$', open(os.path.join(root, 'crates.txt'), encoding='utf-8').read(), re.M)
+    order.sort(key=lambda line: len(line[1].split()))
+    for crate, _ in order:
         for folder, _, names in sorted(os.walk(os.path.join(root, 'crates', crate, 'src'))):
             for name in sorted(names):
                 if name.endswith('.rt'):
                     items += list(items_of(os.path.join(folder, name)))
 
+    # The types of fields, and of what query and node patterns bind, by name where all agree.
+    field_types, bound = {}, {}
+    for item, lines in items:
+        if item.kind == 'struct':
+            for name, of in re.findall(r'(\w+): (\w+),', item.code):
+                field_types[name] = of if field_types.get(name, of) == of else None
+        for names in re.findall(r'Query::(?:Some|Every)\((\w), (\w), (\w)\)', item.code):
+            bound.update({(item.path, n): t for n, t in zip(names, ('u8', 'i32', 'i32'))})
+        for names in re.findall(r'Query::(?:Fact|Number)\((\w), (\w), (\w)\)', item.code):
+            bound.update({(item.path, n): t for n, t in zip(names, ('u8', 'u32', 'u32')) if n != 'v'})
+    field_types['number'] = 'u8'
+
     # 1
     for item, lines in items:
         if item.kind == 'enum':
             variants = re.findall(r'^\s+(\w+)(\([^)]*\))?,', item.code, re.M)
-            if len(variants) == 2 and sum(1 for v in variants if v[1]) >= 1:
+            if len(variants) == 2 and sum(1 for v in variants if v[1]) >= 1 and not item.name.endswith(('Error', 'Fault')):
                 add('1 enum like Option or Result', item, item.first, item.name)
         if item.kind == 'struct':
             for i, t in matches(item, lines, r'\w+: bool,'):
                 add('1 flag in a struct', item, i, t)
-            for i, t in matches(item, lines, r'^\s*(pub )?(number|open|kind|answer|met): (u8|u64|i64),'):
+            for i, t in [] if item.name in ('Rule', 'Relation') else matches(item, lines, r'^\s*(pub )?(number|open|met): (u8|i64),'):
                 add('1 number for a kind', item, i, item.name + ': ' + t)
-        if item.kind == 'const' and re.search(r': u8 = \d', item.code):
+        if item.kind == 'const' and re.search(r'pub const \w+: u8 = \d', item.code):
             add('1 number for a kind', item, item.first, item.code)
         if item.kind == 'fn' and not re.search(r'fn number\(self\)', item.code):
             head = item.code.split('{')[0]
             if re.search(r'-> \(?(\w+, )?(Result<)?u(8|64)\b', head) and \
-                    re.search(r'\.number\(\)|\b(YES|NO|OPEN)\b|Ok\(\d\d\)|\b(1000|2000)\b|=> 2,|_ => 0|value\.(min|max)', item.code):
+                    re.search(r'\.number\(\)|\b(YES|NO|OPEN)\b|Ok\(\d\d\)|\b(1000|2000)\b|=> 2,|value\.(min|max)', item.code):
                 add('1 number for a kind', item, item.first, item.name)
             if re.search(r'-> usize', head) and re.search(r'return \w+;', item.code) and \
                     re.search(r'\n\s*\w+\.len\(\)\n\s*\}$', item.code):
@@ -141,8 +195,8 @@ def main():
     for item, lines in items:
         if item.kind != 'fn':
             continue
-        for i, t in matches(item, lines, r'^\s*while (?!let)'):
-            add('3 while', item, i, t)
+        for i, t in matches(item, lines, r'^\s*while (?!let).*[<>]'):
+            add('3 while over places', item, i, t)
         for i, t in matches(item, lines, r'^\s*for ([a-z]|place) in .*\.\.'):
             add('3 for over places', item, i, t)
         for m in re.finditer(r'^( *)for [^\n]+\{\n\s+if [^\n]+\{\n\s+(return|\w+ = \w+\.\w+_add\(1\))[^\n]*;\n\s+\}\n\1\}',
@@ -154,10 +208,19 @@ def main():
     for item, lines in items:
         if item.kind != 'fn':
             continue
+        pairs = collections.defaultdict(set)
         for i, t in matches(item, lines, r'(\w+)\.(\w+) (==|!=|<) (\w+)\.\2\b'):
-            add('4 fields compared one by one', item, i, t)
+            for a, field, _, b in re.findall(r'(\w+)\.(\w+) (==|!=|<) (\w+)\.\2\b', t):
+                pairs[a, b].add(field)
+        for (a, b), names in pairs.items():
+            if len(names) >= 2:
+                add('4 fields compared one by one', item, item.first, f'{item.name}: {a}, {b}: ' + ', '.join(sorted(names)))
+        types = dict(re.findall(r'(\w+): (u8|u16|u32|i32|bool)\b', item.code.split('{')[0]))
         for i, t in matches(item, lines, r'\bas (u8|u16|u32|u64|usize|i32|i64|i128)\b'):
-            add('4 cast', item, i, t)
+            for field, name, into in re.findall(r'(\.?)(\w+)(?:\(\))? as (\w+)', t):
+                narrow = field_types.get(name) if field else types.get(name) or bound.get((item.path, name))
+                if into in WIDER.get(narrow, ()):
+                    add('4 cast where From would do', item, i, t)
         for i, t in matches(item, lines, r'Ok\((\w+)\) => Ok\(\1\)|Some\(\w+\) => Some\(|None => None|Err\((\w+)\) => Err\('
                                          r'|None => false|Some\(_\) => 1'):
             add('4 mapped by a match', item, i, t)
@@ -206,7 +269,8 @@ def main():
         if item.kind == 'fn':
             head = item.code.split('{')[0]
             for m in re.finditer(r'(\w+): bool\b', head):
-                add('7 bool that picks a step', item, item.first, item.name + ': ' + m.group(1))
+                if m.group(1) not in VALUES:
+                    add('7 bool that picks a step', item, item.first, item.name + ': ' + m.group(1))
             for i, t in matches(item, lines, r'match (step|test|case|call|step\.call)\b'):
                 add('7 switch on a step', item, i, t)
             for i, t in matches(item, lines, r'if \w+\.negated'):
@@ -228,10 +292,11 @@ def main():
     for rule, places in found.items():
         if only and rule[0] != only:
             continue
-        kept = sum(1 for p in places if p[3])
-        print(f'{rule}: {len(places)} found, {kept} with a reason')
+        kept = [has_reason(rule, item) for item, _, _ in places]
+        print(f'{rule}: {len(places)} found, {sum(kept)} with a reason')
         if listing:
-            for path, line, text, stays in places:
+            for (item, line, text), stays in zip(places, kept):
+                path = os.path.relpath(item.path, root)
                 print(f'    {path}:{line}: {text}' + ('  [stays]' if stays else ''))
     if not only or only == '8':
         for name, n in answers.items():
