@@ -44,19 +44,6 @@ class Item:
                               if not re.match(r'\s*(//|requires |ensures |ghost )', l))
         self.clauses = [re.sub(r'^\s*requires (\w+ )?\{ (.*) \}.*$', r'\2', l)
                         for l in lines[first:last + 1] if re.match(r'\s*requires ', l)]
-        self.code = '\n'.join(l for l in lines[first:last + 1]
-                              if not re.match(r'\s*(//|requires |ensures |ghost )', l))
-        self.clauses = [re.sub(r'^\s*requires (\w+ )?\{ (.*) \}.*$', r'\2', l)
-                        for l in lines[first:last + 1] if re.match(r'\s*requires ', l)]
-        # A reason right above an impl holds for the functions in it.
-        outer = first
-        while outer > 0 and lines[first].startswith(' ') and not lines[outer].startswith('impl'):
-            outer -= 1
-        top = outer
-        while top > 0 and lines[top - 1].startswith('//'):
-            top -= 1
-        inherited = lines[top:outer] if outer < first else []
-        self.stays = '// Stays: ' in self.whole or any(l.startswith('// Stays: ') for l in inherited)
 
 
 def end_of(lines, first):
