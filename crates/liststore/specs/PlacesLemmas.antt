@@ -1,7 +1,9 @@
 -- A fact's place in a rising list.
-use Rattle.std.specs.Prelude.{◌≡◌, ℕ, zero, suc, ◌+◌, ◌<◌, ◌≤◌, true, false, cond, ◌||◌, List, [], ◌∷◌, length, None, Ok, Err, Result, MatchResult, ◌==◌, slice_index_or, refl}
+use Rattle.std.specs.Prelude.{◌≡◌, ℕ, zero, suc, ◌+◌, ◌-◌, ◌++◌, take, drop, ◌<◌, ◌≤◌, true, false, cond, ◌||◌, List, [], ◌∷◌, length, None, Ok, Err, Result, MatchResult, ◌==◌, slice_index_or, refl}
 use Rattle.std.proofs.Common.{sym, ap, ◌∙◌, subst, ⊎_elim, zero-le, suc-le-suc, le_of_suc-le-suc, not-suc-le-zero, le_refl, arith}
-use Rattle.std.specs.List.{insert, remove, slice_get}
+use Rattle.std.specs.List.{insert, remove, slice_get, copy_within}
+use Rattle.std.proofs.Math.Seq.{take-paste}
+use Rattle.std.proofs.lemmas.List.{take_rest, length-drop}
 use Rattle.std.specs.List.Sorted.{IsNonDecreasingBy, IsPartitionPoint, IsPartitionedBy, IsBinarySearchResult, IsSearchInRange}
 use Rattle.std.specs.declared.cmp.Ordering.{Ordering}
 use Rattle.std.specs.declared.cmp.Ordering.TheVariants.{Less, Equal, Greater}
@@ -62,6 +64,17 @@ without_at f (x ∷ xs) d r l e =
     let s : same f x ≡ true = rw k at e in
     let a : before_all f xs ≡ true = rw (same_eq f x s) (and_parts _ _ r).0 in
     rw (k, s) (without_absent f xs (absent_before_all f xs a)))
+
+-- the elements behind the i-th, moved down by one, and the last one let go
+pub closed_up : {X : Type 0} → (xs : List X) (i : ℕ) → i < length xs → take (length xs - 1) (copy_within xs (i + 1) (length xs) i) ≡ remove xs i
+closed_up xs i h =
+    let n : ℕ = length xs - (i + 1) in
+    let e : i + n ≡ length xs - 1 = omega arith in
+    let next : i + 1 ≡ suc i = omega arith in
+    ap (λ k. take k (copy_within xs (i + 1) (length xs) i)) (sym e)
+    ∙ take-paste xs i (drop (i + 1) xs) n (omega arith) (omega (length-drop (i + 1) xs, arith))
+    ∙ ap (λ ys. take i xs ++ ys) (take_rest xs (i + 1))
+    ∙ ap (λ k. take i xs ++ drop k xs) next
 
 -- ---- what an insertion and a removal keep
 
