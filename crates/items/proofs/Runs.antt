@@ -2,8 +2,9 @@
 use Rattle.std.proofs.Common.{◌≡◌, ℕ, suc, ◌+◌, ◌-◌, ◌<◌, ◌≤◌, Bool, true, false, cond, List, [], ◌∷◌, length, take, drop, refl, ap, ◌∙◌, subst, arith}
 use Rattle.std.proofs.lemmas.List.{take_all}
 use Rattle.std.proofs.lemmas.List.Folds.{length-prefix_len}
-use Rattle.std.specs.List.{prefix_len, take_while, zip}
-use Rattle.items.specs.Items.{joins, before, runs}
+use Rattle.std.specs.List.{prefix_len, take_while}
+use Rattle.items.specs.declared.cut.Class.{Class}
+use Rattle.items.specs.Items.{class_of, letter, digit, is_letter, is_digit, goes_on, joins, before, runs, first as first_byte}
 
 -- a text's first run begins with its first byte
 begins_before : (y : ℕ) (bss : List (List ℕ)) → (cs : List ℕ) × (rs : List (List ℕ)) × (before y bss ≡ (y ∷ cs) ∷ rs)
@@ -20,10 +21,6 @@ alone x (y ∷ ys) h =
     let no = h y ys refl in
     rw (b.2, no)
 
--- how many bytes from the front on join the next
-abbrev joining : List ℕ → ℕ
-joining xs = prefix_len (λ p. joins p.0 p.1) (zip xs (drop 1 xs))
-
 -- a length of the first run
 pub record First (xs : List ℕ) (n : ℕ) : Type 0 where
   pub within : n ≤ length xs
@@ -35,17 +32,34 @@ first_by true x y ys n h e =
     record { within = omega (arith, h.within); front = rw (one, h.front, e) }
 first_by false x y ys n h e = record { within = omega arith; front = rw (h.front, e) }
 
--- these bytes and the one after them are the first run
-first_run : (xs : List ℕ) → 0 < length xs → First xs (suc (joining xs))
-first_run [] h = absurd (omega arith)
-first_run (x ∷ []) h = record { within = omega arith; front = refl }
-first_run (x ∷ y ∷ ys) h = first_by (joins x y) x y ys (joining (y ∷ ys)) (first_run (y ∷ ys) (omega arith)) refl
+-- what goes on with a run of a byte's class is of that class, and joins the byte
+letter_of : (b : ℕ) → is_letter (class_of b) ≡ letter b
+letter_of b = grind arith
 
-pub first : (xs : List ℕ) (n : ℕ) → 0 < length xs → n ≡ length (take_while (λ p. joins p.0 p.1) (zip xs (take (length xs - 1) (drop 1 xs)))) → First xs (1 + n)
-first [] n h e = absurd (omega arith)
-first (x ∷ xs) n h e =
+digit_of : (b : ℕ) → is_digit (class_of b) ≡ digit b
+digit_of b = grind arith
+
+joins_on : (x y : ℕ) → joins x y ≡ goes_on (class_of x) y
+joins_on x y = rw (letter_of y, digit_of y) refl
+
+same_class : (k : Class) (y : ℕ) → goes_on k y ≡ true → class_of y ≡ k
+same_class k y h = grind arith
+
+-- a byte and those after it that go on with its class are the first run
+first_run_by : (t : Bool) (x y : ℕ) (ys : List ℕ) → goes_on (class_of x) y ≡ t → First (y ∷ ys) (suc (prefix_len (goes_on (class_of y)) ys)) → First (x ∷ y ∷ ys) (suc (prefix_len (goes_on (class_of x)) (y ∷ ys)))
+first_run_by true x y ys e h =
+    let k : class_of y ≡ class_of x = same_class (class_of x) y e in
+    rw e (first_by true x y ys _ (subst (λ k. First (y ∷ ys) (suc (prefix_len (goes_on k) ys))) k h) (joins_on x y ∙ e))
+first_run_by false x y ys e h = rw e (first_by false x y ys _ h (joins_on x y ∙ e))
+
+first_run : (x : ℕ) (ys : List ℕ) → First (x ∷ ys) (suc (prefix_len (goes_on (class_of x)) ys))
+first_run x [] = record { within = omega arith; front = refl }
+first_run x (y ∷ ys) = first_run_by (goes_on (class_of x) y) x y ys refl (first_run y ys)
+
+pub first : (k : Class) (xs : List ℕ) (n : ℕ) → 0 < length xs → k ≡ class_of (first_byte xs) → n ≡ length (take_while (goes_on k) (take (length xs - 1) (drop 1 xs))) → First xs (1 + n)
+first k [] n h c e = absurd (omega arith)
+first k (x ∷ xs) n h c e =
     let all : take (suc (length xs) - 1) xs ≡ xs = take_all _ xs (omega arith) in
-    let test : ℕ × ℕ → Bool = λ p. joins p.0 p.1 in
-    let k : n ≡ joining (x ∷ xs) = e ∙ length-prefix_len test (zip (x ∷ xs) (take (suc (length xs) - 1) xs)) ∙ ap (λ ys. prefix_len test (zip (x ∷ xs) ys)) all in
-    let s : suc (joining (x ∷ xs)) ≡ 1 + n = omega (arith, k) in
-    subst (First (x ∷ xs)) s (first_run (x ∷ xs) h)
+    let m : n ≡ prefix_len (goes_on (class_of x)) xs = e ∙ length-prefix_len (goes_on k) (take (suc (length xs) - 1) xs) ∙ ap (prefix_len (goes_on k)) all ∙ ap (λ k. prefix_len (goes_on k) xs) c in
+    let s : suc (prefix_len (goes_on (class_of x)) xs) ≡ 1 + n = omega (arith, m) in
+    subst (First (x ∷ xs)) s (first_run x xs)

@@ -42,6 +42,10 @@ is_digit class.Letter = false
 is_digit class.Digit = true
 is_digit class.Other = false
 
+-- a byte goes on with a run of this class
+abbrev pub goes_on : Class → ℕ → Bool
+goes_on k b = (is_letter k && letter b) || (is_digit k && digit b)
+
 -- letters run together, and so do digits and minus signs
 abbrev pub joins : ℕ → ℕ → Bool
 joins b c = (is_letter (class_of b) && is_letter (class_of c)) || (is_digit (class_of b) && is_digit (class_of c))

@@ -1,17 +1,19 @@
 //! A run of bytes: its kind, and the place past it.
 ghost use Rattle.std.specs.Prelude.{◌≡◌, ◌+◌, ◌^◌, ◌<◌, ◌∷◌, ◌++◌, [], IfSome, MatchOption, length};
-ghost use Rattle.items.specs.Items.{kind_of, past as past-run, runs};
+ghost use Rattle.items.specs.Items.{class_of, first, kind_of, past as past-run, runs};
 
 use crate::cut::{Class, class_of, run_len};
 use crate::item::{Kind, Place};
 use crate::number::number;
 use crate::word::word;
 
-/// Bytes that stand together, at least one.
+/// Bytes that stand together, at least one, and the class of the first.
 #[derive(Clone, Copy)]
 pub(crate) struct Run<'a> {
     pub(crate) bytes: &'a [u8],
+    class: Class,
     ghost some: { 0 < length bytes.now },
+    ghost classed: { class ≡ class_of (first bytes.now) },
 }
 
 impl<'a> Run<'a> {
@@ -20,18 +22,16 @@ impl<'a> Run<'a> {
         ensures parts { MatchOption result (text.now ≡ []) (λ p. text.now ≡ p.0.bytes.now ++ p.1.now) }
         ensures first { IfSome result (λ p. runs text.now ≡ p.0.bytes.now ∷ runs p.1.now) }
     {
-        if text.is_empty() {
-            return None;
-        }
-        let (bytes, after) = text.split_at(run_len(text));
-        Some((Run { bytes }, after))
+        let class = class_of(*text.first()?);
+        let (bytes, after) = text.split_at(run_len(class, text));
+        Some((Run { bytes, class }, after))
     }
 
     /// The kind of the item that it is. Cost: its length.
     pub(crate) fn kind(self) -> Kind
         ensures { result ≡ kind_of self.entry.bytes.now }
     {
-        match class_of(self.bytes[0]) {
+        match self.class {
             Class::Open => Kind::Open,
             Class::Close => Kind::Close,
             Class::Space => Kind::Space,
