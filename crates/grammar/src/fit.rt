@@ -31,8 +31,8 @@ fn rising(low: i64, high: i64, before: i64, item: Item) -> Result<Item, FaultKin
 fn ranged(slot: Slot, before: i64, item: Item) -> Result<Item, FaultKind>
     ensures { result ≡ in-its-range slot before item }
 {
-    // Stays: tried `Slot::Upper(low, high) | Slot::UpperOrEnd(low, high)`; the check makes no proof for an i64 that two
-    // variants of one arm bind.
+    // Stays: of `Slot::Upper(low, high) | Slot::UpperOrEnd(low, high)` the check says "a bug in rattle": an i64 that two variants
+    // bind in one arm is of type "(denote.Struct.Field.i64-field).Value" to it.
     match slot {
         Slot::Range(low, high) => within(low, high, item),
         Slot::Upper(low, high) => rising(low, high, before, item),

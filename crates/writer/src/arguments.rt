@@ -30,8 +30,8 @@ impl Sink<'_> {
     fn put_query(&mut self, query: Query)
         ensures { Gains self.old self.new (spaced (map arg_text (entry_of (Node.Query query)).args)) }
     {
-        // Stays: tried `Query::Some(r, l, h) | Query::Every(r, l, h)`; the check makes no proof for an i32 that two variants
-        // of one arm bind.
+        // Stays: `Fact` and `Number` bind other types, and of `Query::Some(r, l, h) | Query::Every(r, l, h)` the check says "a bug
+        // in rattle": an i32 that two variants bind in one arm is of type "(denote.Struct.Field.i32-field).Value" to it.
         match query {
             Query::Some(r, l, h) => self.put_each(&[
                 Some(i64::from(r)),
