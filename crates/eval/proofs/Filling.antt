@@ -2,7 +2,7 @@
 use Rattle.std.proofs.Common.{◌≡◌, ℕ, zero, suc, ◌+◌, ◌-◌, ◌*◌, ◌/◌, ◌%◌, ◌<◌, ◌≤◌, Bool, true, leb, List, [], map, length, get_or, set, sym, refl, ap, ◌∙◌, subst, ⊎_elim, add-mul, one-mul, mul-zero, zero-mul, arith, get_or-set_other, get_or-set_same}
 use Rattle.std.proofs.lemmas.Nat.{div-add-mod', div_below, mod_below}
 use Rattle.std.proofs.lemmas.List.{length-append, length-map, get_or_append_left, get_or-append_right, get_or-map, get_or_default, same_lists}
-use Rattle.std.proofs.lemmas.Bool.{cases_eq, cases_lt, lt-leb}
+use Rattle.std.proofs.lemmas.Bool.{cases_eq, cases_lt, lt-leb, lt-ltb, or_left}
 use Rattle.truth.specs.Kinds.{Kind, Laws}
 use Rattle.syntax.specs.Formula.{Formula}
 use Rattle.syntax.specs.Formula.Formula.{Truth}
@@ -11,7 +11,7 @@ use Rattle.syntax.specs.declared.Node.TheVariants as node
 use Rattle.syntax.specs.Nodes.{formulas, formula_at, place, Ordered}
 use Rattle.eval.specs.Columns.{value_at}
 use Rattle.eval.specs.Steps.{node_value, kept_of, Filled}
-use Rattle.eval.specs.Standing.{Right}
+use Rattle.eval.specs.Standing.{Right, stood}
 use Rattle.eval.specs.Truth.{all, Record, count, value}
 use Rattle.eval.specs.Values.{values_upto, all_values}
 use Rattle.eval.proofs.Folds.{all_none}
@@ -112,10 +112,15 @@ module _ {K : Type 0} (k : Kind K) (r : Record K) (nodes : List Node) (m : ℕ) 
           same : (a j : ℕ) → a < length nodes → j < count r → value_at k after (length nodes) a j ≡ value_at k values (length nodes) a j → stays j (value_at k after (length nodes) a j) ≡ true → value_at k after (length nodes) a j ≡ truths a j
           same a j la lj e = subst (λ (v : K). stays j v ≡ true → v ≡ truths a j) (sym e) (right a j la lj)
 
-  pub filled_more : (values : List K) (from : ℕ) → from ≤ 0 → Filled k r nodes values m → Done values from → Filled k r nodes values (m + 1)
-  filled_more values from start filled done a j la lj =
+  -- the states before `from` stand
+  pub filled_more :
+      (values : List K) (i from : ℕ) (stays : ℕ → K → Bool) → i ≤ from → m < length nodes → Filled k r nodes values m → Done values i
+      → Right k r nodes values (stood from stays) → Filled k r nodes values (m + 1)
+  filled_more values i from stays le lm filled done right a j la lj =
       ⊎_elim
-      (λ (e : a ≡ m). subst (λ (n : ℕ). value_at k values (length nodes) n j ≡ truths n j) (sym e) (done j (omega arith) lj))
+      (λ (e : a ≡ m).
+      subst (λ (n : ℕ). value_at k values (length nodes) n j ≡ truths n j) (sym e)
+      (⊎_elim (λ (l : j < from). right m j lm lj (or_left _ _ (lt-ltb j from l))) (λ l. done j (omega arith) lj) (cases_lt j from)))
       (λ ne. filled a j (omega arith) lj)
       (cases_eq a m)
 

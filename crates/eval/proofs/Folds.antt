@@ -1,28 +1,9 @@
--- How the or and the and over states are worked out: from the first state on, from the last state back, and not past a window.
-use Rattle.std.proofs.Common.{◌≡◌, ℕ, zero, suc, ◌+◌, ◌<◌, ◌≤◌, Bool, false, cond, leb, sym, refl, ap, ◌∙◌, ap₂, ⊎_elim, arith}
+-- How the or and the and over states are worked out: from the last state back, and not past a window.
+use Rattle.std.proofs.Common.{◌≡◌, ℕ, zero, suc, ◌<◌, ◌≤◌, Bool, false, leb, sym, refl, ap, ◌∙◌, ap₂, ⊎_elim, arith}
 use native.Mathlib.Decide.{le_ind}
 use Rattle.std.proofs.lemmas.Bool.{le-leb, lt-leb, cond-true, cond-false, cases_lt}
-use Rattle.std.specs.List.{fold, range_with_len}
 use Rattle.truth.specs.Kinds.{Kind, Laws}
 use Rattle.eval.specs.Truth.{any, all}
-
--- one state more, if it passes the test
-abbrev pub joined : {K : Type 0} → Kind K → (ℕ → Bool) → (ℕ → K) → K → ℕ → K
-joined k t f x j = k.or x (cond (t j) (f j) k.no)
-
--- n states from j on
-pub any_fold : {K : Type 0} (k : Kind K) (t p : ℕ → Bool) (f g : ℕ → K) (n j : ℕ) {x : K}
-    → ((m : ℕ) → j ≤ m → m < j + n → cond (t m) (f m) k.no ≡ cond (p m) (g m) k.no)
-    → x ≡ any k j p g → fold (joined k t f) x (range_with_len j n) ≡ any k (j + n) p g
-any_fold k t p f g zero j same e =
-    let none : j ≡ j + 0 = omega arith in
-    e ∙ ap (λ m. any k m p g) none
-any_fold k t p f g (suc n) j same e =
-    let one : suc j ≡ j + 1 = omega arith in
-    let all : j + 1 + n ≡ j + suc n = omega arith in
-    any_fold k t p f g n (j + 1) (λ m l h. same m (omega arith) (omega arith))
-    (ap₂ k.or e (same j (omega arith) (omega arith)) ∙ ap (λ m. any k m p g) one)
-    ∙ ap (λ m. any k m p g) all
 
 module _ {K : Type 0} {k : Kind K} (laws : Laws k) where
   pub no_or : (x : K) → k.or k.no x ≡ x

@@ -10,3 +10,4 @@ pub mod Related
 pub mod Growing
 pub mod Decided
 pub mod Records
+pub mod Settled

@@ -3,7 +3,7 @@ use Rattle.std.proofs.Common.{◌≡◌, ℕ, ◌+◌, ◌-◌, ◌*◌, ◌<◌
 use Rattle.std.proofs.lemmas.Nat.{mul-le}
 use Rattle.std.proofs.lemmas.List.{get_or_append_left, get_or_push}
 use Rattle.std.proofs.lemmas.Option.{slice_get-get_or}
-use Rattle.std.proofs.lemmas.Bool.{and_parts, both_ways, cases_lt, cases_eq, ltb-true}
+use Rattle.std.proofs.lemmas.Bool.{and_parts, and_from, both_ways, cases_lt, cases_eq, ltb-true, lt-ltb, le-ltb}
 use Rattle.truth.specs.declared.Three.{Three}
 use Rattle.truth.specs.declared.Three.TheVariants.{True, False, Undecided}
 use Rattle.truth.specs.Kleene.{three, Definite}
@@ -16,7 +16,7 @@ use Rattle.eval.specs.Columns.{value_at}
 use Rattle.eval.specs.Growing.{latest, later_than, growing_record}
 use Rattle.eval.specs.Rows.{truth_of}
 use Rattle.eval.specs.Stamps.{rising}
-use Rattle.eval.specs.Standing.{decided, stays_decided, Right}
+use Rattle.eval.specs.Standing.{decided, stays_decided, stood, Settled, Right}
 use Rattle.eval.specs.Steps.{Filled}
 use Rattle.eval.specs.Truth.{Record, count, value}
 use Rattle.eval.proofs.Filling.{all_values_at, length_all_values}
@@ -83,6 +83,15 @@ decided_right nodes r s values run begins up filled n e a i la li h =
     let same : x ≡ value three r (formula_at nodes a) i = filled a i la lt in
     same ∙ sym (persistence r s run begins up (formula_at nodes a) i lt (definite _ (ap decided (sym same) ∙ parts.1)))
 
+-- no value at the settled states is undecided, so they stand whole
+pub settled_right : (nodes : List Node) (s : Record Three) (values : List Three) (n from : ℕ) → from ≤ n → Settled nodes values from
+    → Right three s nodes values (stays_decided n) → Right three s nodes values (stood from (stays_decided n))
+settled_right nodes s values n from le settled right a i la li h =
+    ⊎_elim
+    (λ l. right a i la li (and_from _ _ (lt-ltb i n (omega arith)) (settled a i la l)))
+    (λ (l : from ≤ i). right a i la li (rw (le-ltb i from l) at h))
+    (cases_lt i from)
+
 none_right : (nodes : List Node) (s : Record Three) (values : List Three) (n : ℕ) → n ≡ 0 → Right three s nodes values (stays_decided n)
 none_right nodes s values n e a i la li h = absurd (omega (arith, ltb-true i n (and_parts (ltb i n) (decided (value_at three values (length nodes) a i)) h).0, e))
 
@@ -94,6 +103,11 @@ begins_more ts rs t row b e = (
     λ m. sym (ap (λ (w : ℕ). truth_of three (bit_of w m)) (get_or_append_left rs (row ∷ []) 0 i (omega arith))),
   ),
 )
+
+-- the states whose values stand are there
+pub few_states : (b : Bool) (x : ℕ) {n m : ℕ} → n ≡ cond b 0 x → x ≤ m → n ≤ m
+few_states true x e le = omega arith
+few_states false x e le = omega arith
 
 module _ (s : EvaluatedRecord) where
   abbrev own : Record Three
@@ -108,6 +122,13 @@ module _ (s : EvaluatedRecord) where
       same (i * length own_nodes + a) False (place_within i (length own_nodes) a (count own) (vec_len s.values) li la (how_many s))
       ∙ ap (λ (vs : List Three). get_or vs (i * length own_nodes + a) False) s.evaluated
       ∙ all_values_at three own own_nodes i a False li la
+
+  -- the settled states are, wherever the values are kept
+  pub settled_same : (values : List Three) → ((k : ℕ) (d : Three) → k < vec_len s.values → get_or values k d ≡ get_or (vec_items s.values) k d)
+      → (n : ℕ) → n ≤ s.settled → Settled own_nodes values n
+  settled_same values same n le a i la li =
+      ap decided (same (i * length own_nodes + a) False (place_within i (length own_nodes) a (count own) (vec_len s.values) (omega (arith, s.counted, s.stamps.ok.0)) la (how_many s)))
+      ∙ s.definite a i la (omega arith)
 
   -- what stands when a state comes
   pub take_right :

@@ -1,13 +1,12 @@
 -- One turn of an operator's loop, and what the loop then comes to: d is a distance, t the test, y the value at the state, z what is joined.
 use Rattle.std.proofs.Common.{◌≡◌, ℕ, zero, suc, ◌+◌, ◌-◌, ◌<◌, ◌≤◌, Bool, true, false, cond, ◌&&◌, ltb, leb, sym, refl, ap, ◌∙◌, ap₂, arith}
 use Rattle.std.proofs.lemmas.Bool.{le-leb, lt-leb, lt-ltb, and_left, and_right, cond-true}
-use Rattle.std.specs.List.{fold, range_with_len}
 use Rattle.truth.specs.Kinds.{Kind, Laws}
 use Rattle.syntax.specs.declared.Window.{Window}
-use Rattle.eval.specs.Truth.{any, all, Record, count, stamp, below, within, future, past, next}
+use Rattle.eval.specs.Truth.{any, all, Record, count, stamp, below, within, future, past, mark, sometime, until, next}
 use Rattle.eval.specs.Stamps.{rising, span}
 use Rattle.eval.proofs.Stamps.{rises_le, beyond_far, beyond_out}
-use Rattle.eval.proofs.Folds.{joined, any_fold, no_or, any_stop, any_none, all_none, all_front}
+use Rattle.eval.proofs.Folds.{no_or, yes_and, any_stop, any_none, all_none, all_front}
 
 -- a test with a first part that is known
 test_true : {K : Type 0} (a b : Bool) (x y : K) → a ≡ true → cond (a && b) x y ≡ cond b x y
@@ -23,7 +22,7 @@ module _ {K : Type 0} (k : Kind K) (f g : ℕ → K) (i : ℕ) where
   lasting j = k.and (g j) (all k (suc i) (λ m. ltb j m) f)
 
 -- yes at every state that passes a test
-kept_yes : {K : Type 0} {k : Kind K} (laws : Laws k) (n : ℕ) (p : ℕ → Bool) → all k n p (λ _. k.yes) ≡ k.yes
+pub kept_yes : {K : Type 0} {k : Kind K} (laws : Laws k) (n : ℕ) (p : ℕ → Bool) → all k n p (λ _. k.yes) ≡ k.yes
 kept_yes laws zero p = refl
 kept_yes {k = k} laws (suc n) p = ap₂ k.and (kept_yes laws n p) (same (p n)) ∙ laws.and_yes k.yes
   where
@@ -58,15 +57,6 @@ module _ {K : Type 0} {k : Kind K} (laws : Laws k) (r : Record K) (w : Window) w
       (λ j l h.
       let far = rises_le r.stamps up end j l h in
       and_right (leb i j) _ (beyond_out w _ (beyond_far w.high _ _ (beyond (omega arith)) (omega arith)))))
-
-  pub future_fold : (f : ℕ → K) (i end : ℕ) → rising r.stamps ≡ true → i ≤ end → end ≤ count r
-      → (end < count r → below w.high (span r.stamps i end) ≡ false)
-      → fold (joined k (λ j. within w (span r.stamps i j)) f) k.no (range_with_len i (end - i)) ≡ any k (count r) (future k r w i) f
-  future_fold f i end up le ends beyond =
-      future_end f i (i + (end - i)) end up (omega arith) (omega arith) le ends beyond
-      (any_fold k (λ j. within w (span r.stamps i j)) (future k r w i) f f (end - i) i
-      (λ j h _. sym (test_true (leb i j) _ (f j) k.no (le-leb i j h)))
-      (future_start f i))
 
   -- ---- the first operand of until, from state i on
 
@@ -135,20 +125,17 @@ module _ {K : Type 0} {k : Kind K} (laws : Laws k) (r : Record K) (w : Window) w
       let less : j ≡ suc (j - 1) = omega arith in
       pq ∙ ap₂ k.and py (inv ∙ ap (λ n. all k (suc i) (λ m. leb n m) f) less)
 
-  -- once: yes holds after every state
-  once_here : (g : ℕ → K) (i j : ℕ) → g j ≡ lasting k (λ _. k.yes) g i j
-  once_here g i j = sym (laws.and_yes (g j)) ∙ ap (k.and (g j)) (sym (kept_yes laws (suc i) (λ m. ltb j m)))
+  -- ---- sometime is an until over yes
 
-  pub once_fold : (g : ℕ → K) (i start : ℕ) → rising r.stamps ≡ true → i < count r → start ≤ i + 1
-      → (0 < start → below w.high (span r.stamps (start - 1) i) ≡ false)
-      → fold (joined k (λ j. within w (span r.stamps j i)) g) k.no (range_with_len start (i + 1 - start)) ≡ any k (suc i) (past k r w i) (lasting k (λ _. k.yes) g i)
-  once_fold g i start up li le beyond =
-      let f = lasting k (λ _. k.yes) g i in
-      let whole : start + (i + 1 - start) ≡ suc i = omega arith in
-      any_fold k (λ j. within w (span r.stamps j i)) (past k r w i) g f (i + 1 - start) start
-      (λ j _ h. ap (λ v. cond (within w (span r.stamps j i)) v k.no) (once_here g i j) ∙ sym (test_true (leb j i) _ (f j) k.no (le-leb j i (omega arith))))
-      (sym (past_none f i start up li le beyond))
-      ∙ ap (λ n. any k n (past k r w i) f) whole
+  any_same : (n : ℕ) (p : ℕ → Bool) (f g : ℕ → K) → ((j : ℕ) → f j ≡ g j) → any k n p f ≡ any k n p g
+  any_same zero p f g same = refl
+  any_same (suc n) p f g same = ap₂ k.or (any_same n p f g same) (ap (λ v. cond (p n) v k.no) (same n))
+
+  pub until_yes : (g : ℕ → K) (i : ℕ) → until k r w (λ _. k.yes) g i ≡ sometime k r w g i
+  until_yes g i =
+      ap₂ k.or
+      (any_same (count r) (future k r w i) _ g (λ j. ap (k.and (g j)) (kept_yes laws j (λ m. leb i m)) ∙ laws.and_yes (g j)))
+      (ap (λ v. k.and v (mark k r w i)) (kept_yes laws (count r) (λ m. leb i m)) ∙ yes_and laws (mark k r w i))
 
   -- ---- next
 

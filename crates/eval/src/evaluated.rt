@@ -1,13 +1,14 @@
 //! A record that grows state by state, with the value of every node of a table at every state.
 //!
-//! True and false stay while the record grows and when it is finished, so only what is undecided is worked out again.
+//! True and false stay while the record grows and when it is finished, so only what is undecided is worked out again, and
+//! the states before the first with an undecided value are not looked at any more.
 ghost use Rattle.std.specs.Prelude.{◌≡◌, ◌*◌, ◌<◌, ◌≤◌, true, false, [], ◌∷◌, ◌++◌, length, is_ok, if◌then◌else◌, vec_len, vec_capacity};
 ghost use Rattle.truth.specs.Kleene.{three};
 ghost use Rattle.truth.specs.declared.Three.TheVariants.{False, Undecided};
 ghost use Rattle.rules.specs.Tables.{nodes_of};
 ghost use Rattle.eval.specs.Growing.{latest, later_than, growing_record, state_fit, value_in};
 ghost use Rattle.eval.specs.Rows.{row_record};
-ghost use Rattle.eval.specs.Standing.{Right, stays_decided};
+ghost use Rattle.eval.specs.Standing.{Right, Settled, stays_decided};
 ghost use Rattle.eval.specs.Stamps.{rising};
 ghost use Rattle.eval.specs.Values.{all_values};
 
@@ -15,15 +16,15 @@ use crate::evaluation::Evaluation;
 use crate::leaves::Rows;
 use crate::misfit::Misfit;
 use crate::room::RecordRoom;
-use crate::standing::Decided;
+use crate::standing::{Decided, count_decided};
 use rules::table::Table;
 use truth::Three;
 
 /// At most 512 states: the stamp of each, the row of the queries' answers there, and the value of every node,
-/// which is what the definitions give for the stamps and rows.
+/// which is what the definitions give for the stamps and rows. At the first `settled` states no value is undecided.
 // Stays: stamps and rows are two vectors: the evaluator takes stamps as a slice, and pairs would have to be copied at
 // each push, which allocates nothing.
-// Stays: `finished` stands beside nothing: a finished record keeps all that it has.
+// Stays: `finished` is no value's flag: a finished record keeps every field, and the values only mean another record.
 #[derive(Drop)]
 pub struct EvaluatedRecord<'t> {
     pub(crate) table: &'t Table,
@@ -31,6 +32,7 @@ pub struct EvaluatedRecord<'t> {
     pub(crate) rows: Vec<u64>,
     pub(crate) values: Vec<Three>,
     pub(crate) finished: bool,
+    settled: usize,
     ghost few: { vec_len stamps ≤ 512 },
     ghost risen: { rising stamps.items ≡ true },
     ghost paired: { vec_len rows ≡ vec_len stamps },
@@ -38,6 +40,8 @@ pub struct EvaluatedRecord<'t> {
     ghost for_rows: { 512 ≤ vec_capacity rows },
     ghost for_values: { 32768 ≤ vec_capacity values },
     ghost evaluated: { values.items ≡ all_values three (growing_record stamps.items rows.items finished) (nodes_of table.now) },
+    ghost counted: { settled ≤ vec_len stamps },
+    ghost definite: { Settled (nodes_of table.now) values.items settled },
 }
 
 impl<'t> EvaluatedRecord<'t> {
@@ -59,6 +63,7 @@ impl<'t> EvaluatedRecord<'t> {
             rows,
             values,
             finished: false,
+            settled: 0,
         }
     }
 
@@ -73,8 +78,7 @@ impl<'t> EvaluatedRecord<'t> {
     pub fn is_finished(&self) -> bool
         ensures { result ≡ self.now.finished }
     {
-        let EvaluatedRecord { finished, .. } = self;
-        *finished
+        self.finished
     }
 
     /// How many states there are. Cost: constant.
@@ -102,7 +106,8 @@ impl<'t> EvaluatedRecord<'t> {
 
     /// One more state, with its row; refused with no room for it, or a stamp that is not later than the last, and the
     /// record is then as it was.
-    /// Cost: a look at the value of each node at each state, and the window of each that is undecided; no allocation.
+    /// Cost: a look at the value of each node at each state from the first with an undecided value on, and the window of
+    /// each that is undecided; no allocation.
     /// A finished record takes states too, and then works out every value anew.
     pub fn push(&mut self, stamp: u64, row: u64) -> Result<(), Misfit>
         ensures answer { result ≡ state_fit self.old.stamps.items stamp }
@@ -143,7 +148,7 @@ impl<'t> EvaluatedRecord<'t> {
         self.stamps.push_reserved(stamp);
         self.rows.push_reserved(row);
         self.values.resize(places, Three::Undecided).unwrap();
-        evaluate_rest(
+        self.settled = evaluate_rest(
             self.table,
             self.stamps.as_slice(),
             self.rows.as_slice(),
@@ -162,7 +167,7 @@ impl<'t> EvaluatedRecord<'t> {
     {
         let standing = self.standing();
         self.finished = true;
-        evaluate_rest(
+        self.settled = evaluate_rest(
             self.table,
             self.stamps.as_slice(),
             self.rows.as_slice(),
@@ -174,10 +179,19 @@ impl<'t> EvaluatedRecord<'t> {
 
     /// Which values stand when the record goes on: while it runs those that are decided, and once it is finished none.
     fn standing(&self) -> Decided
-        ensures { result.states ≡ (if self.now.finished then 0 else length self.now.stamps.items) }
+        ensures states { result.states ≡ (if self.now.finished then 0 else length self.now.stamps.items) }
+        ensures settled { result.settled ≤ self.now.settled }
     {
-        let states = if self.finished { 0 } else { self.stamps.len() };
-        Decided { states }
+        if self.finished {
+            return Decided {
+                states: 0,
+                settled: 0,
+            };
+        }
+        Decided {
+            states: self.stamps.len(),
+            settled: self.settled,
+        }
     }
 
     /// What is left open while states may still come.
@@ -192,7 +206,8 @@ impl<'t> EvaluatedRecord<'t> {
     }
 }
 
-/// The values of every node at every state, but for those that stand.
+/// The values of every node at every state, but for those that stand. The answer is a number of states, from the first on,
+/// at which no value is undecided.
 fn evaluate_rest(
     table: &Table,
     stamps: &[u64],
@@ -200,13 +215,19 @@ fn evaluate_rest(
     pending: Three,
     standing: Decided,
     values: &mut Vec<Three>,
-)
+) -> usize
     requires risen { rising stamps.now ≡ true }
     requires full { vec_len values.old ≡ length stamps.now * length (nodes_of table.now) }
     requires right { Right three (row_record three stamps.now rows.now pending) (nodes_of table.now) values.old.items (stays_decided standing.states) }
+    requires settled { Settled (nodes_of table.now) values.old.items standing.settled }
+    requires within { standing.states ≤ length stamps.now }
     ensures values { values.new.items ≡ all_values three (row_record three stamps.now rows.now pending) (nodes_of table.now) }
     ensures capacity { vec_capacity values.new ≡ vec_capacity values.old }
+    ensures settled { Settled (nodes_of table.now) values.new.items result }
+    ensures within { result ≤ length stamps.now }
 {
+    let nodes = table.nodes().len();
+    let from = standing.settled;
     let evaluation = Evaluation {
         nodes: table.nodes(),
         stamps,
@@ -215,4 +236,13 @@ fn evaluate_rest(
         standing,
     };
     evaluation.settle_all(values.as_mut_slice());
+    from + whole_rows(count_decided(values.as_slice(), from * nodes), nodes)
+}
+
+/// How many rows of that many nodes so many values fill; none where a row has no value.
+fn whole_rows(values: usize, nodes: usize) -> usize
+    ensures within { result * nodes ≤ values }
+    ensures none { nodes ≡ 0 → result ≡ 0 }
+{
+    values.checked_div(nodes).unwrap_or(0)
 }

@@ -6,7 +6,7 @@ ghost use Rattle.syntax.specs.declared.Node.TheVariants.{True};
 ghost use Rattle.eval.specs.Columns.{value_at};
 ghost use Rattle.eval.specs.Evaluations.{record_in, kept_in, Fits, Has};
 ghost use Rattle.eval.specs.Stamps.{record_of};
-ghost use Rattle.eval.specs.Standing.{Right};
+ghost use Rattle.eval.specs.Standing.{Right, stood};
 ghost use Rattle.eval.specs.Steps.{node_value, Filled};
 ghost use Rattle.eval.specs.Truth.{value};
 ghost use Rattle.eval.specs.Values.{all_values, fit};
@@ -126,7 +126,7 @@ impl<K: Truth, L: Leaves<K>, S: Standing<K>> Evaluation<'_, K, L, S> {
     fn settle(&self, values: &mut [K], m: usize, i: usize, kept: K)
         requires within { Has self.now m i × Fits self.now values.old }
         requires filled { Filled K.kind (record_in L.leaf self.now) self.now.nodes.now values.old m }
-        requires right { Right K.kind (record_in L.leaf self.now) self.now.nodes.now values.old (S.stays self.now.standing) }
+        requires right { Right K.kind (record_in L.leaf self.now) self.now.nodes.now values.old (stood (S.from self.now.standing) (S.stays self.now.standing)) }
         requires keeps { kept ≡ kept_in K.kind self.now values.old m i }
         ensures { values.new ≡ slice_set values.old (i * length self.now.nodes.now + m) (value K.kind (record_in L.leaf self.now) (formula_at self.now.nodes.now m) i) }
     {
@@ -137,29 +137,30 @@ impl<K: Truth, L: Leaves<K>, S: Standing<K>> Evaluation<'_, K, L, S> {
         self.write(values, m, i, value);
     }
 
-    /// Puts the values of node `m` at every state into their places, from the last state to the first, but for those
-    /// that stand.
+    /// Puts the values of node `m` at every state into their places, from the last state to the first that is to be
+    /// looked at, but for those that stand.
     // Stays: `i` is the place of a state, at which three columns are read and one value is written.
     fn settle_node(&self, values: &mut [K], m: usize)
         requires within { (m < length self.now.nodes.now) × Fits self.now values.old }
         requires filled { Filled K.kind (record_in L.leaf self.now) self.now.nodes.now values.old m }
-        requires right { Right K.kind (record_in L.leaf self.now) self.now.nodes.now values.old (S.stays self.now.standing) }
+        requires right { Right K.kind (record_in L.leaf self.now) self.now.nodes.now values.old (stood (S.from self.now.standing) (S.stays self.now.standing)) }
         ensures filled { Filled K.kind (record_in L.leaf self.now) self.now.nodes.now values.new (m + 1) }
-        ensures right { Right K.kind (record_in L.leaf self.now) self.now.nodes.now values.new (S.stays self.now.standing) }
+        ensures right { Right K.kind (record_in L.leaf self.now) self.now.nodes.now values.new (stood (S.from self.now.standing) (S.stays self.now.standing)) }
     {
         let mut held = K::yes();
-        for i in (0..self.stamps.len()).rev() {
+        for i in (self.standing.first()..self.stamps.len()).rev() {
             held = self.kept_at(values, m, i, held);
             self.settle(values, m, i, held);
         }
     }
 
     /// Puts the values of every node at every state into their places, but for those that stand.
-    /// Cost: a look at each value, and for each that does not stand the states of its window.
+    /// Cost: a look at each value from the first state on that is to be looked at, and for each that does not stand the
+    /// states of its window.
     // Stays: `m` is the place of a node, which the values are written by, and not only the node.
     pub fn settle_all(&self, values: &mut [K])
         requires within { Fits self.now values.old }
-        requires right { Right K.kind (record_in L.leaf self.now) self.now.nodes.now values.old (S.stays self.now.standing) }
+        requires right { Right K.kind (record_in L.leaf self.now) self.now.nodes.now values.old (stood (S.from self.now.standing) (S.stays self.now.standing)) }
         ensures { values.new ≡ all_values K.kind (record_in L.leaf self.now) self.now.nodes.now }
     {
         for m in 0..self.nodes.len() {

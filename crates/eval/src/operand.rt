@@ -53,3 +53,17 @@ impl<K: Truth, O: Operand<K>> Operand<K> for Negated<'_, O> {
         self.of.read(i).not()
     }
 }
+
+/// Yes at every state.
+#[derive(Drop)]
+pub(crate) struct Yes;
+
+impl<K: Truth> Operand<K> for Yes {
+    ghost has = { λ _ _. Unit {0} };
+
+    ghost at = { λ _ _. K.Truth.kind.yes };
+
+    fn read(&self, i: usize) -> K {
+        K::yes()
+    }
+}

@@ -6,7 +6,7 @@ ghost use Rattle.eval.specs.Outlooks.{seen, Covers};
 ghost use Rattle.eval.specs.Stamps.{span};
 ghost use Rattle.eval.specs.Truth.{all, below, mark, sometime, always, until, next, allnext, previous, once, sofar, since};
 
-use crate::operand::{Negated, Operand};
+use crate::operand::{Negated, Operand, Yes};
 use crate::outlook::Outlook;
 use crate::windows::{contains, is_beyond, is_past};
 use truth::Truth;
@@ -112,7 +112,8 @@ impl Outlook<'_> {
         let end = self.future_end();
         let mut any = K::no();
         let mut held = K::yes();
-        // Stays: a fold would carry the same two values in a pair, and its closure a contract longer than the loop.
+        // Stays: a fold would carry both values in a pair, and its closure ask for the place and both operands in a contract
+        // as long as this loop.
         for j in self.state..end {
             let (here, on) = turn(first, second, held, j);
             any = any.or(only_if(contains(self.window, self.ahead(j)), here));
@@ -133,7 +134,7 @@ impl Outlook<'_> {
         let start = self.past_start();
         let mut any = K::no();
         let mut held = K::yes();
-        // Stays: a fold would carry the same two values in a pair, and its closure ask for the state and both operands.
+        // Stays: a fold would be as long as that of `until`.
         for j in (start..self.state + 1).rev() {
             let (here, on) = turn(first, second, held, j);
             any = only_if(contains(self.window, self.behind(j)), here).or(any);
@@ -142,21 +143,12 @@ impl Outlook<'_> {
         any
     }
 
-    /// Whether the operand comes up in the future window, or may still come. Cost: the states up to the window's end.
+    /// Whether the operand comes up in the future window, or may still come. Cost: that of until.
     pub fn sometime<K: Truth, O: Operand<K>>(&self, operand: &O, pending: K) -> K
         requires { Covers self.now (O.has operand.now) }
         ensures { result ≡ sometime K.kind (seen K.kind self.now pending) self.now.window (O.at operand.now) self.now.state }
     {
-        // Stays: as an until over yes the plain truth took 1.1 times as long as with a loop here, at windows without bound.
-        let end = self.future_end();
-        let any = (self.state..end).fold(
-            K::no(),
-            |any: K, j: usize| -> K
-                requires inside { j < length self.now.stamps.now }
-                requires has { O.has operand.now j }
-            { any.or(only_if(contains(self.window, self.ahead(j)), operand.read(j))) },
-        );
-        any.or(self.open_mark(pending))
+        self.until(&Yes, operand, K::yes(), pending)
     }
 
     /// The operand at every state of the future window. Cost: that of sometime.
@@ -168,20 +160,12 @@ impl Outlook<'_> {
         self.sometime(&Negated { of: operand }, pending).not()
     }
 
-    /// The operand at some state of the past window. Cost: the states from the window's start.
+    /// The operand at some state of the past window. Cost: that of since.
     pub fn once<K: Truth, O: Operand<K>>(&self, operand: &O) -> K
         requires { Covers self.now (O.has operand.now) }
         ensures { result ≡ once K.kind (seen K.kind self.now K.kind.no) self.now.window (O.at operand.now) self.now.state }
     {
-        // Stays: apart from `since`, which over yes would read yes at each state and carry that it held.
-        let start = self.past_start();
-        (start..self.state + 1).fold(
-            K::no(),
-            |any: K, j: usize| -> K
-                requires inside { j < length self.now.stamps.now }
-                requires has { O.has operand.now j }
-            { any.or(only_if(contains(self.window, self.behind(j)), operand.read(j))) },
-        )
+        self.since(&Yes, operand)
     }
 
     /// The operand at every state of the past window. Cost: that of once.

@@ -1,5 +1,6 @@
 use Rattle.std.proofs.Common.{◌≡◌, ◌+◌, ◌*◌, true, length, set, sym, ap, ◌∙◌}
 use lib.Seq.{set-get_or}
+use Rattle.std.proofs.lemmas.Bool.{or_right}
 use Rattle.eval.specs.Columns.{value_at}
 use Rattle.eval.specs.Evaluations.{record_in}
 use Rattle.eval.proofs.Filling.{node_truth}
@@ -13,7 +14,7 @@ returns-then-stands g c =
     let stays : g.S.Standing.stays e.standing c.args.i (value_at g.K.Truth.kind values (length e.nodes.now) c.args.m c.args.i) ≡ true =
     ap (g.S.Standing.stays e.standing c.args.i) (sym c.value.ensures) ∙ sym c.stands.ensures ∙ c.if-stands.true in
     sym (set-get_or values place g.K.Truth.kind.no)
-    ∙ ap (set values place) (c.requires.right c.args.m c.args.i c.requires.within.0.0 c.requires.within.0.1 stays)
+    ∙ ap (set values place) (c.requires.right c.args.m c.args.i c.requires.within.0.0 c.requires.within.0.1 (or_right _ _ stays))
 
 pub returns : goal.returns
 returns g c =

@@ -1,5 +1,6 @@
 use Rattle.std.proofs.Common.{◌-◌, length, refl, ◌∙◌, arith}
 use Rattle.eval.specs.Evaluations.{record_in}
+use Rattle.eval.specs.Standing.{stood}
 use Rattle.eval.proofs.Filling.{truths, kept_none, kept_columns, kept_truths, filled_keeps, done_more, right_keeps, filled_more}
 use Rattle.eval.proofs.evaluation.Evaluation.settle_node.Goals as goal
 
@@ -35,7 +36,7 @@ loop-i-preserved g c =
       omega (arith, c.loop-i.invariant.0),
       filled_keeps k r nodes m c.requires.within.0 e.ordered old c.loop-i.invariant.1 c.loop-i.invariant.0 i (omega arith) x new c.settle.ensures,
       done_more k r nodes m c.requires.within.0 e.ordered old c.loop-i.invariant.1 c.loop-i.invariant.0 i (omega arith) x new c.settle.ensures c.loop-i.i (omega arith) refl c.loop-i.invariant.2,
-      right_keeps k r nodes m c.requires.within.0 e.ordered old c.loop-i.invariant.1 c.loop-i.invariant.0 i (omega arith) x new c.settle.ensures refl (g.S.Standing.stays e.standing) c.loop-i.invariant.3,
+      right_keeps k r nodes m c.requires.within.0 e.ordered old c.loop-i.invariant.1 c.loop-i.invariant.0 i (omega arith) x new c.settle.ensures refl (stood (g.S.Standing.from e.standing) (g.S.Standing.stays e.standing)) c.loop-i.invariant.3,
       kept_truths k r nodes m c.requires.within.0 e.ordered old c.loop-i.invariant.1 i c.kept_at-held.ensures,
     )
 
@@ -43,6 +44,6 @@ pub returns : goal.returns
 returns g c =
     let e = c.args.self.now in
     record {
-      filled = filled_more g.K.Truth.kind (record_in g.L.Leaves.leaf e) e.nodes.now c.args.m c.loop-i.values c.loop-i.i (omega arith) c.loop-i.invariant.1 c.loop-i.invariant.2;
+      filled = filled_more g.K.Truth.kind (record_in g.L.Leaves.leaf e) e.nodes.now c.args.m c.loop-i.values c.loop-i.i (g.S.Standing.from e.standing) (g.S.Standing.stays e.standing) (omega (arith, c.first-i-start.ensures)) c.requires.within.0 c.loop-i.invariant.1 c.loop-i.invariant.2 c.loop-i.invariant.3;
       right = c.loop-i.invariant.3;
     }
