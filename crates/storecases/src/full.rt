@@ -9,19 +9,15 @@ fn number(put: Result<bool, StoreFault>) -> u8 {
 }
 
 /// How many of the facts that a grid takes pass the test.
-// Stays: in a chain over three ranges the inner closures could not all hold the test by &mut.
-fn count_taken<F: FnMut(Fact) -> bool>(mut test: F) -> u32
-    requires { F.IsAlwaysCallable test }
+fn count_taken<F: FnMut(Fact) -> bool>(test: F) -> u32
+    requires { (state : F) (fact : _) → F.pre state fact }
 {
-    let mut times: u32 = 0;
-    for relation in 0..16 {
-        for key in 0..64 {
-            for value in 0..64 {
-                times = times.saturating_add(u32::from(test(Fact::new(relation, key, value))));
-            }
-        }
-    }
-    times
+    (0..16)
+        .flat_map(|relation| (0..64).map(move |key| (relation, key)))
+        .flat_map(|(relation, key)| (0..64).map(move |value| Fact::new(relation, key, value)))
+        .map(test)
+        .map(u32::from)
+        .fold(0, u32::saturating_add)
 }
 
 /// A store that is filled, with the name that is printed for it.

@@ -57,18 +57,26 @@ fn compare<F: FnMut(Step, Answer) -> anyhow::Result<()>>(
     Ok(tally)
 }
 
-/// The calls on one store and on the model.
-fn alone<S: Store>(store: &mut S, model: &mut Model, relations: usize) -> anyhow::Result<Tally> {
+/// The calls on one store and on the model, and a line of what was compared.
+fn alone<S: Store>(
+    rt: &HostRuntime,
+    name: &str,
+    store: &mut S,
+    model: &mut Model,
+    relations: usize,
+) -> anyhow::Result<()> {
     let tables = Tables {
         relations,
         keys: &KEYS,
         values: &VALUES,
     };
-    compare(20_240_601, tables, model, |step, expected| {
+    let tally = compare(20_240_601, tables, model, |step, expected| {
         let found = steps::play(store, step);
         ensure!(found == expected, "the store and the model differ");
         Ok(())
-    })
+    })?;
+    println!(rt; "{name}: {tally}")?;
+    Ok(())
 }
 
 /// The same calls on two stores and on the model, with facts that both stores take.
@@ -92,27 +100,10 @@ fn side_by_side<S: Store, T: Store>(
 }
 
 fn list_alone(rt: &HostRuntime, places: usize, relations: usize) -> anyhow::Result<()> {
+    let name = format!(in rt.alloc(); "list of {places}")?;
     let mut list = ListStore::new(rt.alloc(), places)?;
     let mut model = Model::of_list(rt.alloc(), places);
-    let tally = alone(&mut list, &mut model, relations)?;
-    println!(rt; "list of {places}: {tally}")?;
-    Ok(())
-}
-
-fn slot_alone(rt: &HostRuntime) -> anyhow::Result<()> {
-    let mut slot = SlotStore::new();
-    let mut model = Model::of_list(rt.alloc(), 1);
-    let tally = alone(&mut slot, &mut model, 2)?;
-    println!(rt; "slot: {tally}")?;
-    Ok(())
-}
-
-fn grid_alone(rt: &HostRuntime) -> anyhow::Result<()> {
-    let mut grid = GridStore::new();
-    let mut model = Model::of_grid(rt.alloc());
-    let tally = alone(&mut grid, &mut model, 18)?;
-    println!(rt; "grid: {tally}")?;
-    Ok(())
+    alone(rt, name.as_str(), &mut list, &mut model, relations)
 }
 
 fn both(rt: &HostRuntime) -> anyhow::Result<()> {
@@ -128,8 +119,10 @@ pub fn run_all(rt: &HostRuntime) -> anyhow::Result<()> {
     list_alone(rt, 0, 18)?;
     list_alone(rt, 1, 2)?;
     list_alone(rt, 256, 18)?;
-    slot_alone(rt)?;
-    grid_alone(rt)?;
+    let mut slot_model = Model::of_list(rt.alloc(), 1);
+    alone(rt, "slot", &mut SlotStore::new(), &mut slot_model, 2)?;
+    let mut grid_model = Model::of_grid(rt.alloc());
+    alone(rt, "grid", &mut GridStore::new(), &mut grid_model, 18)?;
     both(rt)?;
     full::run(rt)
 }
