@@ -2,16 +2,20 @@
 ghost use Rattle.std.specs.Prelude.{◌<◌, ◌≤◌};
 
 use random::Generator;
+use std::alloc::Global;
 
+/// The source of the choices, and the memory for what is made of them.
 #[derive(Drop)]
 pub struct Random {
     source: Generator,
+    pub heap: Global,
 }
 
 impl Random {
-    pub fn new(seed: u64) -> Random {
+    pub fn new(heap: Global, seed: u64) -> Random {
         Random {
             source: Generator::new(seed),
+            heap,
         }
     }
 

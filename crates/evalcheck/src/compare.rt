@@ -1,8 +1,7 @@
 //! One random table on one random record, by both evaluators.
 use crate::chance::Random;
-use crate::facts::{add_answers, random_facts};
-use crate::grow;
-use crate::second::{Columns, Times, Value, evaluate_tree};
+use crate::facts::Facts;
+use crate::second::{Columns, States, Value};
 use crate::tally::{Mode, Tally};
 use crate::tree::Tree;
 use anyhow::bail;
@@ -36,135 +35,136 @@ pub struct Rules {
     pub text: String,
 }
 
-/// Rules of at most so many formulas in all.
-// Stays: memory and chance belong to no one value.
-pub fn random_rules(heap: Global, random: &mut Random, formulas: u32) -> Result<Rules, AllocError> {
-    let mut rules = Vec::new(heap);
-    let mut text = String::new(heap);
-    let mut left = formulas.min(FORMULAS);
-    let mut number: u8 = 0;
-    for _ in 0..RULES {
-        if left == 0 {
-            break;
+impl Random {
+    /// Rules of at most so many formulas in all.
+    pub fn rules(&mut self, formulas: u32) -> Result<Rules, AllocError> {
+        let mut rules = Vec::new(self.heap);
+        let mut text = String::new(self.heap);
+        let mut left = formulas.min(FORMULAS);
+        let mut number: u8 = 0;
+        for _ in 0..RULES {
+            if left == 0 {
+                break;
+            }
+            let size = 1 + self.up_to((left - 1).min(40));
+            left = left.saturating_sub(size);
+            number = number.saturating_add(1 + self.up_to(3) as u8);
+            let formula = self.tree(size, LEVELS)?;
+            writeln!(text, "(rule {number} {formula})")?;
+            rules.push(Rule { number, formula })?;
         }
-        let size = 1 + random.up_to((left - 1).min(40));
-        left = left.saturating_sub(size);
-        number = number.saturating_add(1 + random.up_to(3) as u8);
-        let formula = grow::tree(heap, random, size, LEVELS)?;
-        writeln!(text, "(rule {number} {formula})")?;
-        rules.push(Rule { number, formula })?;
+        Ok(Rules { rules, text })
     }
-    Ok(Rules { rules, text })
 }
 
-/// What both evaluators are given.
+/// Which column has the values of a rule's formula.
+#[derive(Drop)]
+struct Root {
+    rule: u8,
+    column: usize,
+}
+
+/// What the second evaluator says of a table on a record.
+#[derive(Drop)]
+struct Expected<'a> {
+    columns: Columns<'a>,
+    roots: Vec<Root>,
+}
+
+/// What both evaluators are given, and the memory for what they say.
 #[derive(Clone, Copy)]
-struct Case<'a> {
-    rules: &'a Rules,
-    table: &'a Table,
-    record: &'a RecordText,
+pub struct Case<'a> {
+    pub heap: Global,
+    pub rules: &'a [Rule],
+    pub table: &'a Table,
+    pub record: &'a RecordText,
 }
 
-impl Case<'_> {
+impl<'a> Case<'a> {
     /// The columns of every formula by the second evaluator.
-    fn by_trees(self, heap: Global, open: Value) -> Result<Columns, AllocError> {
-        let mut out = Columns::new(heap);
-        let times = Times {
-            stamps: self.record.stamps.as_slice(),
+    fn by_trees(self, open: Value) -> Result<Expected<'a>, AllocError> {
+        let states = States {
+            record: self.record,
             open,
         };
-        let rows = self.record.rows.as_slice();
-        for rule in self.rules.rules.iter() {
-            let root = evaluate_tree(heap, &rule.formula, rows, times, &mut out)?;
-            out.roots.push(root)?;
+        let mut columns = Columns::new(self.heap, states);
+        let mut roots = Vec::new(self.heap);
+        for rule in self.rules {
+            let column = columns.add_tree(&rule.formula)?;
+            roots.push(Root {
+                rule: rule.number,
+                column,
+            })?;
         }
-        Ok(out)
+        Ok(Expected { columns, roots })
     }
 
     /// The values of every formula at every state by the evaluator, state by state.
-    fn by_table<K: Truth + Into<Value>>(
-        self,
-        heap: Global,
-        pending: K,
-    ) -> anyhow::Result<Vec<Value>> {
+    fn by_table<K: Truth + Into<Value>>(self, pending: K) -> anyhow::Result<Vec<Value>> {
         let stamps = self.record.stamps.as_slice();
         let rows = Rows {
             rows: self.record.rows.as_slice(),
         };
         let places = stamps.len().saturating_mul(self.table.nodes().len());
-        let mut values = Vec::new(heap);
+        let mut values = Vec::new(self.heap);
         values.resize(places, pending)?;
         if evaluate(self.table, stamps, &rows, pending, values.as_mut_slice()).is_err() {
             bail!("a record was refused");
         }
-        Ok(values.iter().map(|value| (*value).into()).collect(heap)?)
+        Ok(
+            values
+                .iter()
+                .map(|value| (*value).into())
+                .collect(self.heap)?,
+        )
     }
 
     /// Compares every formula at every state, and where each rule's formula stands.
     fn compare<K: Truth + Into<Value>>(
         self,
-        heap: Global,
         tally: &mut Tally,
         mode: Mode,
-        expected: &Columns,
+        expected: &Expected<'_>,
         pending: K,
     ) -> anyhow::Result<()> {
-        let values = self.by_table(heap, pending)?;
+        let values = self.by_table(pending)?;
         let nodes = self.table.nodes().len();
-        tally.expect(nodes == expected.columns.len());
-        for (rule, root) in self.rules.rules.iter().zip(expected.roots.iter()) {
-            tally.expect(self.table.root(rule.number) == Some(*root));
+        let columns = expected.columns.as_slice();
+        tally.expect(nodes == columns.len());
+        for Root { rule, column } in expected.roots.iter() {
+            tally.expect(self.table.root(*rule) == Some(*column));
         }
         for (state, found) in values.chunks(nodes.max(1)).enumerate() {
-            for (column, found) in expected.columns.iter().zip(found) {
+            for (column, found) in columns.iter().zip(found) {
                 tally.value(mode, column.form, column.at(state), *found);
             }
         }
         Ok(())
     }
-}
 
-/// The row of a random set of facts, from both stores.
-pub fn check_row(
-    heap: Global,
-    random: &mut Random,
-    tally: &mut Tally,
-    rules: &Rules,
-    table: &Table,
-) -> Result<(), AllocError> {
-    let count = random.up_to(12);
-    let facts = random_facts(heap, random, count)?;
-    let mut answers = Vec::new(heap);
-    for rule in rules.rules.iter() {
-        add_answers(facts.entries.as_slice(), &rule.formula, &mut answers)?;
+    /// The row of a set of facts, from both stores.
+    pub fn compare_rows(self, facts: &Facts, tally: &mut Tally) -> Result<(), AllocError> {
+        let mut answers = Vec::new(self.heap);
+        for rule in self.rules {
+            facts.add_answers(&rule.formula, &mut answers)?;
+        }
+        tally.row(answers.as_slice(), row(&facts.list, self.table));
+        tally.row(answers.as_slice(), row(&facts.grid, self.table));
+        Ok(())
     }
-    tally.row(answers.as_slice(), row(&facts.list, table));
-    tally.row(answers.as_slice(), row(&facts.grid, table));
-    Ok(())
-}
 
-/// A table read from the rules' text, on the record: plain, running and finished.
-pub fn check(
-    heap: Global,
-    tally: &mut Tally,
-    rules: &Rules,
-    table: &Table,
-    record: &RecordText,
-) -> anyhow::Result<()> {
-    let case = Case {
-        rules,
-        table,
-        record,
-    };
-    let closed = case.by_trees(heap, Value::No)?;
-    let open = case.by_trees(heap, Value::Open)?;
-    tally.note(
-        rules.rules.len(),
-        closed.columns.len(),
-        record.stamps.len(),
-        closed.edges,
-    );
-    case.compare(heap, tally, Mode::Plain, &closed, false)?;
-    case.compare(heap, tally, Mode::Finished, &closed, Three::False)?;
-    case.compare(heap, tally, Mode::Running, &open, Three::Undecided)
+    /// The record: plain, running and finished.
+    pub fn compare_record(self, tally: &mut Tally) -> anyhow::Result<()> {
+        let closed = self.by_trees(Value::No)?;
+        let open = self.by_trees(Value::Open)?;
+        tally.note(
+            self.rules.len(),
+            closed.columns.as_slice().len(),
+            self.record.stamps.len(),
+            closed.columns.edges,
+        );
+        self.compare(tally, Mode::Plain, &closed, false)?;
+        self.compare(tally, Mode::Finished, &closed, Three::False)?;
+        self.compare(tally, Mode::Running, &open, Three::Undecided)
+    }
 }

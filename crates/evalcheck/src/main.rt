@@ -12,33 +12,41 @@ mod tree;
 
 use anyhow::{bail, ensure};
 use chance::Random;
+use compare::Case;
 use rules::table::Table;
-use std::alloc::Global;
 use tally::Tally;
 
 const TABLES: u32 = 3000;
 
 /// One table in four is as large as a table can be, and one record in sixteen is long.
-// Stays: memory and chance belong to no one value.
-fn run_one(heap: Global, random: &mut Random, tally: &mut Tally) -> anyhow::Result<()> {
+fn run_one(random: &mut Random, tally: &mut Tally) -> anyhow::Result<()> {
     let formulas = if random.one_in(4) {
         64
     } else {
         1 + random.up_to(30)
     };
-    let rules = compare::random_rules(heap, random, formulas)?;
-    tally.note_depth(levels(rules.text.as_bytes()));
+    let rules = random.rules(formulas)?;
+    let text = rules.text.as_bytes();
+    tally.note_depth(levels(text));
     let states = if random.one_in(16) {
         random.up_to(40)
     } else {
         random.up_to(9)
     };
-    let record = grow::record(heap, random, states)?;
-    let Ok(table) = Table::new(heap)?.read(rules.text.as_bytes()) else {
+    let record = random.record(states)?;
+    let count = random.up_to(12);
+    let facts = random.facts(count)?;
+    let Ok(table) = Table::new(random.heap)?.read(text) else {
         bail!("a table was refused");
     };
-    compare::check_row(heap, random, tally, &rules, &table)?;
-    compare::check(heap, tally, &rules, &table, &record)
+    let case = Case {
+        heap: random.heap,
+        rules: rules.rules.as_slice(),
+        table: &table,
+        record: &record,
+    };
+    case.compare_rows(&facts, tally)?;
+    case.compare_record(tally)
 }
 
 /// How deep formulas lie in each other: the most brackets open at a time, but for the rule's own.
@@ -58,10 +66,10 @@ fn levels(text: &[u8]) -> usize {
 }
 
 fn run(rt: &HostRuntime) -> anyhow::Result<()> {
-    let mut random = Random::new(20_261_118);
+    let mut random = Random::new(rt.alloc(), 20_261_118);
     let mut tally = Tally::default();
     for _ in 0..TABLES {
-        run_one(rt.alloc(), &mut random, &mut tally)?;
+        run_one(&mut random, &mut tally)?;
     }
     tally.print(rt)?;
     ensure!(tally.is_clean(), "the evaluators differ");

@@ -1,6 +1,7 @@
 //! The second evaluator: on trees, by the words of the definitions, with truth values in order: no, open, yes.
 //! And is the least, or the greatest, and not counts from the other end.
 use crate::tree::{Bounds, Form, Operator, Tree};
+use recordtext::state::RecordText;
 use std::alloc::{AllocError, Global};
 use std::ops::Not;
 use truth::Three;
@@ -42,10 +43,10 @@ impl From<Three> for Value {
     }
 }
 
-/// What the operators look at: the stamps, and what an open mark is.
+/// What the formulas look at: the record, and what an open mark is.
 #[derive(Clone, Copy)]
-pub struct Times<'a> {
-    pub stamps: &'a [u64],
+pub struct States<'a> {
+    pub record: &'a RecordText,
     pub open: Value,
 }
 
@@ -64,9 +65,13 @@ fn least(column: &[Value], from: usize, to: usize) -> Value {
         .unwrap_or(Value::Yes)
 }
 
-impl Times<'_> {
+impl States<'_> {
+    fn count(self) -> usize {
+        self.record.stamps.len()
+    }
+
     fn stamp(self, state: usize) -> u64 {
-        self.stamps.get(state).copied().unwrap_or(0)
+        self.record.stamps.get(state).copied().unwrap_or(0)
     }
 
     /// Whether the time from one state to a later one lies within the window.
@@ -75,7 +80,7 @@ impl Times<'_> {
     }
 
     fn mark(self, window: Bounds, state: usize) -> Value {
-        let last = self.stamps.last().copied().unwrap_or(0);
+        let last = self.record.stamps.last().copied().unwrap_or(0);
         match window.high {
             Some(high) if last.saturating_sub(self.stamp(state)) >= high => Value::No,
             _ => self.open,
@@ -83,11 +88,12 @@ impl Times<'_> {
     }
 
     // Stays: a struct of window and state would be built anew for each call, as the state changes with each.
+    // Stays: each function that calls a parameter has to ask that it may.
     fn next<F: Fn(usize) -> Value>(self, window: Bounds, i: usize, value: F) -> Value
         requires { F.IsAlwaysCallable value }
     {
         let next = i.saturating_add(1);
-        if next >= self.stamps.len() {
+        if next >= self.count() {
             self.mark(window, i)
         } else if self.within(window, i, next) {
             value(next)
@@ -106,29 +112,30 @@ impl Times<'_> {
     }
 
     /// The greatest value from a state on within the window, and what the record leaves open.
-    // Stays: each function that calls a parameter has to ask that it may.
     fn ahead<F: Fn(usize) -> Value>(self, window: Bounds, i: usize, open: Value, value: F) -> Value
-        requires { (f : _) (a : _) → F.FnMut.pre f a }
+        requires { F.IsAlwaysCallable value }
     {
-        (i..self.stamps.len())
+        (i..self.count())
             .filter(|j| self.within(window, i, *j))
-            .map(value)
+            .map(|j| value(j))
             .fold(open, Value::max)
     }
 
     /// The greatest value up to a state within the window.
     fn back<F: Fn(usize) -> Value>(self, window: Bounds, i: usize, value: F) -> Value
-        requires { (f : _) (a : _) → F.FnMut.pre f a }
+        requires { F.IsAlwaysCallable value }
     {
         (0..=i)
             .filter(|j| self.within(window, *j, i))
-            .map(value)
+            .map(|j| value(j))
             .max()
             .unwrap_or(Value::No)
     }
 
     fn of_one(self, operator: Operator, f: &[Value], i: usize) -> Value {
-        let window = operator.window;
+        let Some(window) = operator.window else {
+            return !at(f, i);
+        };
         let mark = self.mark(window, i);
         match operator.form {
             Form::Next => self.next(window, i, |j| at(f, j)),
@@ -137,13 +144,12 @@ impl Times<'_> {
             Form::Always => !self.ahead(window, i, mark, |j| !at(f, j)),
             Form::Previous => self.previous(window, i, |j| at(f, j)),
             Form::Once => self.back(window, i, |j| at(f, j)),
-            Form::SoFar => !self.back(window, i, |j| !at(f, j)),
-            _ => !at(f, i),
+            _ => !self.back(window, i, |j| !at(f, j)),
         }
     }
 
     fn until(self, window: Bounds, f: &[Value], g: &[Value], i: usize) -> Value {
-        let open = self.mark(window, i).min(least(f, i, self.stamps.len()));
+        let open = self.mark(window, i).min(least(f, i, self.count()));
         self.ahead(window, i, open, |j| at(g, j).min(least(f, i, j)))
     }
 
@@ -154,27 +160,25 @@ impl Times<'_> {
     }
 
     fn of_two(self, operator: Operator, f: &[Value], g: &[Value], i: usize) -> Value {
-        match operator.form {
-            Form::And => at(f, i).min(at(g, i)),
-            Form::Or => at(f, i).max(at(g, i)),
-            Form::Implies => (!at(f, i)).max(at(g, i)),
-            Form::Until => self.until(operator.window, f, g, i),
-            _ => self.since(operator.window, f, g, i),
+        match (operator.form, operator.window) {
+            (Form::And, _) => at(f, i).min(at(g, i)),
+            (Form::Or, _) => at(f, i).max(at(g, i)),
+            (Form::Until, Some(window)) => self.until(window, f, g, i),
+            (Form::Since, Some(window)) => self.since(window, f, g, i),
+            _ => (!at(f, i)).max(at(g, i)),
         }
     }
 
-    /// How many distances between states are a bound of the operator's window.
-    fn edges(self, operator: Operator) -> usize {
-        if !operator.form.has_window() {
-            return 0;
-        }
-        self.stamps
+    /// How many distances between states are a bound of the window.
+    fn edges(self, window: Bounds) -> usize {
+        let stamps = self.record.stamps.as_slice();
+        stamps
             .iter()
             .enumerate()
             .map(|(j, later)| {
-                let before = self.stamps.iter().take(j);
+                let before = stamps.iter().take(j);
                 before
-                    .filter(|earlier| operator.window.has_edge(later.saturating_sub(**earlier)))
+                    .filter(|earlier| window.has_edge(later.saturating_sub(**earlier)))
                     .count()
             })
             .fold(0, usize::saturating_add)
@@ -182,9 +186,9 @@ impl Times<'_> {
 
     /// The value of every state.
     fn column<F: Fn(usize) -> Value>(self, heap: Global, value: F) -> Result<Vec<Value>, AllocError>
-        requires { (f : _) (a : _) → F.FnMut.pre f a }
+        requires { F.IsAlwaysCallable value }
     {
-        (0..self.stamps.len()).map(value).collect(heap)
+        (0..self.count()).map(|i| value(i)).collect(heap)
     }
 }
 
@@ -201,24 +205,28 @@ impl Column {
     }
 }
 
-/// The columns of the trees so far, in the order of the closing brackets.
-// Stays: roots and columns are no pairs: there are as many roots as rules.
+/// The columns of the trees so far, in the order of the closing brackets, over the states that they are the values at.
 #[derive(Drop)]
-pub struct Columns {
-    pub columns: Vec<Column>,
-    /// The column of each rule's formula.
-    pub roots: Vec<usize>,
+pub struct Columns<'a> {
+    heap: Global,
+    states: States<'a>,
+    columns: Vec<Column>,
     /// How many distances between states were a bound of a window.
     pub edges: usize,
 }
 
-impl Columns {
-    pub fn new(heap: Global) -> Columns {
+impl<'a> Columns<'a> {
+    pub fn new(heap: Global, states: States<'a>) -> Columns<'a> {
         Columns {
+            heap,
+            states,
             columns: Vec::new(heap),
-            roots: Vec::new(heap),
             edges: 0,
         }
+    }
+
+    pub fn as_slice(&self) -> &[Column] {
+        self.columns.as_slice()
     }
 
     fn values(&self, number: usize) -> &[Value] {
@@ -232,45 +240,53 @@ impl Columns {
         self.columns.push(Column { form, values })?;
         Ok(number)
     }
+
+    /// The column of a query or of `(true)`, whose bit of a row is the one of its number.
+    fn add_leaf(&mut self, form: Form) -> Result<usize, AllocError> {
+        let number = self.columns.len();
+        let rows = self.states.record.rows.iter();
+        let values = rows
+            .map(|row| Value::from(form == Form::True || has_bit(*row, number)))
+            .collect(self.heap)?;
+        self.add(form, values)
+    }
+
+    fn add_operator(
+        &mut self,
+        operator: Operator,
+        values: Vec<Value>,
+    ) -> Result<usize, AllocError> {
+        let edges = operator
+            .window
+            .map_or(0, |window| self.states.edges(window));
+        self.edges = self.edges.saturating_add(edges);
+        self.add(operator.form, values)
+    }
+
+    /// Adds the columns of the tree's formulas, and answers the number of its own.
+    pub fn add_tree(&mut self, tree: &Tree) -> Result<usize, AllocError> {
+        let states = self.states;
+        match tree {
+            Tree::Leaf(form, _) => self.add_leaf(*form),
+            Tree::One(operator, operand) => {
+                let f = self.add_tree(operand)?;
+                let f = self.values(f);
+                let values = states.column(self.heap, |i| states.of_one(*operator, f, i))?;
+                self.add_operator(*operator, values)
+            }
+            Tree::Two(operator, first, second) => {
+                let f = self.add_tree(first)?;
+                let g = self.add_tree(second)?;
+                let f = self.values(f);
+                let g = self.values(g);
+                let values = states.column(self.heap, |i| states.of_two(*operator, f, g, i))?;
+                self.add_operator(*operator, values)
+            }
+        }
+    }
 }
 
 /// Whether the bit is set: the row is halved that many times.
 fn has_bit(row: u64, number: usize) -> bool {
     (0..number).fold(row, |rest, _| rest / 2) % 2 == 1
-}
-
-/// Adds the columns of the tree's formulas, and answers the number of its own.
-pub fn evaluate_tree(
-    heap: Global,
-    tree: &Tree,
-    rows: &[u64],
-    times: Times<'_>,
-    out: &mut Columns,
-) -> Result<usize, AllocError> {
-    match tree {
-        Tree::Leaf(form, _) => {
-            let number = out.columns.len();
-            let values = rows
-                .iter()
-                .map(|row| Value::from(*form == Form::True || has_bit(*row, number)))
-                .collect(heap)?;
-            out.add(*form, values)
-        }
-        Tree::One(operator, operand) => {
-            let f = evaluate_tree(heap, operand, rows, times, out)?;
-            let f = out.values(f);
-            let values = times.column(heap, |i| times.of_one(*operator, f, i))?;
-            out.edges = out.edges.saturating_add(times.edges(*operator));
-            out.add(operator.form, values)
-        }
-        Tree::Two(operator, first, second) => {
-            let f = evaluate_tree(heap, first, rows, times, out)?;
-            let g = evaluate_tree(heap, second, rows, times, out)?;
-            let f = out.values(f);
-            let g = out.values(g);
-            let values = times.column(heap, |i| times.of_two(*operator, f, g, i))?;
-            out.edges = out.edges.saturating_add(times.edges(*operator));
-            out.add(operator.form, values)
-        }
-    }
 }

@@ -123,18 +123,17 @@ impl fmt::Display for Bounds {
 #[derive(Clone, Copy, PartialEq, Eq, Debug)]
 pub struct Operator {
     pub form: Form,
-    pub window: Bounds,
+    pub window: Option<Bounds>,
 }
 
 impl fmt::Display for Operator {
     fn fmt<W: fmt::Write>(&self, f: &mut fmt::Formatter<W>) -> fmt::Result {
         let form = self.form;
-        let window = self.window;
-        if form.has_window() {
-            write!(f, "{form} {window}")
-        } else {
-            write!(f, "{form}")
+        write!(f, "{form}")?;
+        if let Some(window) = self.window {
+            write!(f, " {window}")?;
         }
+        Ok(())
     }
 }
 

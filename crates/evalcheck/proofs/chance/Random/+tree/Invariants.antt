@@ -1,4 +1,4 @@
-use Rattle.evalcheck.proofs.grow.+tree.Given as goal
+use Rattle.evalcheck.proofs.chance.Random.+tree.Given as goal
 
 abbrev pub decreases-tree : goal.decreases-tree
 decreases-tree l = l.levels
