@@ -112,6 +112,7 @@ impl States<'_> {
     }
 
     /// The greatest value from a state on within the window, and what the record leaves open.
+    // Stays: with `map(value)` and `map(&value)` the check did not prove `fold-requires-clause-can`.
     fn ahead<F: Fn(usize) -> Value>(self, window: Bounds, i: usize, open: Value, value: F) -> Value
         requires { F.IsAlwaysCallable value }
     {
@@ -122,6 +123,7 @@ impl States<'_> {
     }
 
     /// The greatest value up to a state within the window.
+    // Stays: with `map(value)` and `map(&value)` the check did not prove `max-requires-clause-can`.
     fn back<F: Fn(usize) -> Value>(self, window: Bounds, i: usize, value: F) -> Value
         requires { F.IsAlwaysCallable value }
     {
@@ -185,6 +187,7 @@ impl States<'_> {
     }
 
     /// The value of every state.
+    // Stays: with `map(value)` and `map(&value)` the check did not prove `collect-requires-clause-can`.
     fn column<F: Fn(usize) -> Value>(self, heap: Global, value: F) -> Result<Vec<Value>, AllocError>
         requires { F.IsAlwaysCallable value }
     {
