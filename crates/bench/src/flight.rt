@@ -18,19 +18,20 @@ pub struct Flight {
     pub asking: u128,
 }
 
-/// Puts and drops eight facts.
+/// A fact of few keys, its value a multiple of 200.
+fn some_fact(generator: &mut Generator) -> Fact {
+    let fact = stores::random_fact(generator, 4, 5);
+    Fact {
+        value: fact.value.wrapping_mul(200),
+        ..fact
+    }
+}
+
+/// Puts and drops four facts each.
 fn alter<S: Store>(session: &mut Session<'_, S>, slip: &Slip, generator: &mut Generator) {
-    for step in 0..8 {
-        let fact = stores::random_fact(generator, 4, 5);
-        let fact = Fact {
-            value: fact.value.wrapping_mul(200),
-            ..fact
-        };
-        if step % 2 == 0 {
-            let _ = session.put(slip, fact);
-        } else {
-            let _ = session.drop_fact(slip, fact);
-        }
+    for _ in 0..4 {
+        let _ = session.put(slip, some_fact(generator));
+        let _ = session.drop_fact(slip, some_fact(generator));
     }
 }
 

@@ -28,12 +28,9 @@ pub fn random_record(heap: Global) -> Result<RecordText, AllocError> {
 pub fn count_true<F: Fn(u8, usize) -> bool>(holds: F) -> usize
     requires { F.IsAlwaysCallable holds }
 {
-    let mut yes: usize = 0;
-    for rule in 1..17 {
-        let states = (0..512).filter(|state| holds(rule, *state));
-        yes = yes.wrapping_add(states.count());
-    }
-    yes
+    (1..17)
+        .map(|rule| (0..512).filter(|state| holds(rule, *state)).count())
+        .fold(0, usize::saturating_add)
 }
 
 fn count_judged(judged: &Judged<'_>) -> usize {
@@ -41,19 +38,15 @@ fn count_judged(judged: &Judged<'_>) -> usize {
 }
 
 /// Judges the record once, and answers how often a rule was true.
-fn judge_once<'a>(
-    workspace: Workspace,
-    table: &'a Table,
-    stamps: &'a [u64],
-    rows: &'a [u64],
-) -> (usize, Workspace) {
-    match workspace.judge(table, stamps, rows) {
+fn judge_once(workspace: Workspace, table: &Table, record: &RecordText) -> (usize, Workspace) {
+    match workspace.judge(table, record.stamps.as_slice(), record.rows.as_slice()) {
         Ok(judged) => (count_judged(&judged), judged.close()),
         Err(refusal) => (0, refusal.workspace),
     }
 }
 
 /// Judges the record that many times, and answers how often a rule was true.
+// Stays: a fold would carry the workspace and the sum in a pair.
 pub fn judge_often(
     heap: Global,
     table: &Table,
@@ -63,12 +56,7 @@ pub fn judge_often(
     let mut workspace = Workspace::new(heap)?;
     let mut yes: usize = 0;
     for _ in 0..times {
-        let (found, back) = judge_once(
-            workspace,
-            table,
-            record.stamps.as_slice(),
-            record.rows.as_slice(),
-        );
+        let (found, back) = judge_once(workspace, table, record);
         yes = yes.wrapping_add(found);
         workspace = back;
     }

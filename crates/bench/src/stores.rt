@@ -18,6 +18,7 @@ pub fn random_fact(generator: &mut Generator, keys: usize, values: usize) -> Fac
 }
 
 /// Two puts for each drop, of random facts with keys and values below the bounds.
+// Stays: each step changes the store, which a chain would do in the test of a filter.
 pub fn puts_and_drops<S: Store>(store: &mut S, steps: u32, keys: usize, values: usize) -> Work {
     let mut generator = Generator::new(1);
     let mut changes: u32 = 0;
