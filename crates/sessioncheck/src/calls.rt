@@ -14,26 +14,34 @@ pub enum Call {
     Commit(u64),
     Withdraw,
     Finish,
-    Verdict(u8, usize),
 }
 
-/// What a call comes to.
+/// What an accepted call comes to.
 #[derive(Clone, Copy, PartialEq, Eq)]
-pub enum Answer {
-    /// A begin, a commit or a finish that was accepted.
-    Done,
-    /// A put or a drop that was accepted, and whether it altered the store.
+pub enum Done {
+    /// A begin, a commit or a finish.
+    Accepted,
+    /// A put or a drop, and whether it altered the store.
     Altered(bool),
     /// A withdraw, and how many alterations it undid; none with a slip that is not the open change's.
     Undone(Option<usize>),
-    Verdict(Value),
-    // Stays: a refusal's number is what its users see, so it is what is compared.
-    Refused(u8),
-    /// No call was made, since no slip is held.
-    NoSlip,
 }
 
-// Stays: values of its own and what they are made of, so that this evaluator shares no error with another.
+/// A refusal by its number.
+// Stays: a refusal's number is what its users see, so it is what is compared.
+#[derive(Clone, Copy, PartialEq, Eq)]
+pub struct Refused(pub u8);
+
+impl From<SessionFault> for Refused {
+    fn from(fault: SessionFault) -> Refused {
+        Refused(fault.number())
+    }
+}
+
+/// What a call comes to.
+pub type Answer = Result<Done, Refused>;
+
+// Stays: each check has values of its own, so that it shares no error with the other, and converts to them itself.
 impl From<Three> for Value {
     fn from(truth: Three) -> Value {
         match truth {
@@ -44,28 +52,27 @@ impl From<Three> for Value {
     }
 }
 
-fn refused(fault: SessionFault) -> Answer {
-    Answer::Refused(fault.number())
+fn accepted(answer: Result<(), SessionFault>) -> Answer {
+    answer?;
+    Ok(Done::Accepted)
 }
 
 fn altered(answer: Result<bool, SessionFault>) -> Answer {
-    answer.map_or_else(refused, Answer::Altered)
+    Ok(Done::Altered(answer?))
 }
 
-fn finish<S: Store>(session: &mut Session<'_, S>) -> Answer {
-    session.finish().map_or_else(refused, |_| Answer::Done)
-}
-
-pub fn verdict<S: Store>(session: &Session<'_, S>, rule: u8, state: usize) -> Answer {
-    session
-        .verdict(rule, state)
-        .map_or_else(refused, |value| Answer::Verdict(Value::from(value)))
+pub fn verdict<S: Store>(
+    session: &Session<'_, S>,
+    rule: u8,
+    state: usize,
+) -> Result<Value, Refused> {
+    Ok(session.verdict(rule, state)?.into())
 }
 
 /// Withdraws with what is held.
-// Stays: session and slip are no pair: a round holds two slips, one of another session's.
-pub fn give_back<S: Store>(session: &mut Session<'_, S>, held: Option<Slip>) -> Answer {
-    Answer::Undone(held.and_then(|slip| session.withdraw(slip)))
+// Stays: session and slip are no pair: slips of one session are tried with another.
+pub fn give_back<S: Store>(session: &mut Session<'_, S>, held: Option<Slip>) -> Done {
+    Done::Undone(held.and_then(|slip| session.withdraw(slip)))
 }
 
 /// Holds a slip; what was held is given back.
@@ -75,62 +82,44 @@ fn hold<S: Store>(session: &mut Session<'_, S>, held: &mut Option<Slip>, slip: S
 }
 
 fn begin<S: Store>(session: &mut Session<'_, S>, held: &mut Option<Slip>) -> Answer {
-    match session.begin() {
-        Ok(slip) => {
-            hold(session, held, slip);
-            Answer::Done
-        }
-        Err(fault) => refused(fault),
-    }
+    let slip = session.begin()?;
+    hold(session, held, slip);
+    Ok(Done::Accepted)
 }
 
 /// A refused commit gives the slip back.
-fn commit<S: Store>(session: &mut Session<'_, S>, held: &mut Option<Slip>, stamp: u64) -> Answer {
-    let Some(slip) = held.take() else {
-        return Answer::NoSlip;
-    };
+fn commit<S: Store>(
+    session: &mut Session<'_, S>,
+    held: &mut Option<Slip>,
+    slip: Slip,
+    stamp: u64,
+) -> Answer {
     match session.commit(slip, stamp) {
-        Ok(()) => Answer::Done,
+        Ok(()) => Ok(Done::Accepted),
         Err(CommitRefused { slip, fault }) => {
             hold(session, held, slip);
-            refused(fault)
+            Err(fault.into())
         }
     }
 }
 
-/// A put with the slip that is held.
-pub fn put<S: Store>(session: &mut Session<'_, S>, held: &Option<Slip>, fact: Fact) -> Answer {
-    match held {
-        Some(slip) => altered(session.put(slip, fact)),
-        None => Answer::NoSlip,
-    }
-}
-
-/// A drop with the slip that is held.
-pub fn drop_fact<S: Store>(
-    session: &mut Session<'_, S>,
-    held: &Option<Slip>,
-    fact: Fact,
-) -> Answer {
-    match held {
-        Some(slip) => altered(session.drop_fact(slip, fact)),
-        None => Answer::NoSlip,
-    }
-}
-
-/// Makes a call.
+/// Makes a call, if it needs no slip or one is held.
 // Stays: a call is data, which lists hold and two sessions are given; a closure would be one session's alone.
-pub fn make<S: Store>(session: &mut Session<'_, S>, held: &mut Option<Slip>, call: Call) -> Answer {
-    match call {
+pub fn make<S: Store>(
+    session: &mut Session<'_, S>,
+    held: &mut Option<Slip>,
+    call: Call,
+) -> Option<Answer> {
+    let answer = match call {
         Call::Begin => begin(session, held),
-        Call::Put(r, k, v) => put(session, held, Fact::new(r, k, v)),
-        Call::Drop(r, k, v) => drop_fact(session, held, Fact::new(r, k, v)),
-        Call::Commit(stamp) => commit(session, held, stamp),
-        Call::Withdraw => {
-            let slip = held.take();
-            give_back(session, slip)
+        Call::Put(r, k, v) => altered(session.put(held.as_ref()?, Fact::new(r, k, v))),
+        Call::Drop(r, k, v) => altered(session.drop_fact(held.as_ref()?, Fact::new(r, k, v))),
+        Call::Commit(stamp) => {
+            let slip = held.take()?;
+            commit(session, held, slip, stamp)
         }
-        Call::Finish => finish(session),
-        Call::Verdict(rule, state) => verdict(session, rule, state),
-    }
+        Call::Withdraw => Ok(give_back(session, held.take())),
+        Call::Finish => accepted(session.finish()),
+    };
+    Some(answer)
 }

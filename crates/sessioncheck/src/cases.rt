@@ -1,5 +1,5 @@
 //! Limits from both sides, and every refusal.
-use crate::calls::{Answer, Call, drop_fact, give_back, make, put};
+use crate::calls::{Answer, Call, Done, Refused, give_back, make, verdict};
 use crate::plain::Value;
 use crate::tally::Tally;
 use gridstore::GridStore;
@@ -13,89 +13,93 @@ use store::{Fact, Store};
 #[derive(Clone, Copy)]
 struct Step(Call, Answer);
 
-const ADDED: Answer = Answer::Altered(true);
+/// A rule and a state, and what the verdict has to be.
+#[derive(Clone, Copy)]
+struct Question(u8, usize, Result<Value, Refused>);
 
-const NEITHER: Answer = Answer::Altered(false);
+const ACCEPTED: Answer = Ok(Done::Accepted);
+
+const ALTERED: Answer = Ok(Done::Altered(true));
+
+const UNALTERED: Answer = Ok(Done::Altered(false));
 
 /// After 64 alterations, facts 0 to 63 of relation 0: a 65th, and what such a change still may do.
 const CROWDED: [Step; 5] = [
-    Step(Call::Put(0, 0, 1), Answer::Refused(57)),
-    Step(Call::Put(0, 0, 0), NEITHER),
-    Step(Call::Drop(0, 0, 0), Answer::Refused(57)),
-    Step(Call::Drop(0, 0, 1), NEITHER),
-    Step(Call::Withdraw, Answer::Undone(Some(64))),
+    Step(Call::Put(0, 0, 1), Err(Refused(57))),
+    Step(Call::Put(0, 0, 0), UNALTERED),
+    Step(Call::Drop(0, 0, 0), Err(Refused(57))),
+    Step(Call::Drop(0, 0, 1), UNALTERED),
+    Step(Call::Withdraw, Ok(Done::Undone(Some(64)))),
 ];
 
 /// After 64 facts that fill the store: 57 where 58 fits too, then 58.
 const FULL: [Step; 6] = [
-    Step(Call::Put(0, 64, 0), Answer::Refused(57)),
-    Step(Call::Commit(1), Answer::Done),
-    Step(Call::Begin, Answer::Done),
-    Step(Call::Put(0, 64, 0), Answer::Refused(58)),
-    Step(Call::Put(0, 63, 0), NEITHER),
-    Step(Call::Withdraw, Answer::Undone(Some(0))),
+    Step(Call::Put(0, 64, 0), Err(Refused(57))),
+    Step(Call::Commit(1), ACCEPTED),
+    Step(Call::Begin, ACCEPTED),
+    Step(Call::Put(0, 64, 0), Err(Refused(58))),
+    Step(Call::Put(0, 63, 0), UNALTERED),
+    Step(Call::Withdraw, Ok(Done::Undone(Some(0)))),
 ];
 
 /// A withdraw leaves what a put had found there, and brings back what a drop had taken.
 const WITHDRAWS: [Step; 13] = [
-    Step(Call::Begin, Answer::Done),
-    Step(Call::Put(1, 1, 1), ADDED),
-    Step(Call::Commit(5), Answer::Done),
-    Step(Call::Begin, Answer::Done),
-    Step(Call::Put(1, 1, 1), NEITHER),
-    Step(Call::Put(1, 1, 2), ADDED),
-    Step(Call::Drop(1, 1, 2), ADDED),
-    Step(Call::Drop(1, 1, 1), ADDED),
-    Step(Call::Withdraw, Answer::Undone(Some(3))),
-    Step(Call::Begin, Answer::Done),
-    Step(Call::Drop(1, 1, 1), ADDED),
-    Step(Call::Drop(1, 1, 2), NEITHER),
-    Step(Call::Withdraw, Answer::Undone(Some(1))),
+    Step(Call::Begin, ACCEPTED),
+    Step(Call::Put(1, 1, 1), ALTERED),
+    Step(Call::Commit(5), ACCEPTED),
+    Step(Call::Begin, ACCEPTED),
+    Step(Call::Put(1, 1, 1), UNALTERED),
+    Step(Call::Put(1, 1, 2), ALTERED),
+    Step(Call::Drop(1, 1, 2), ALTERED),
+    Step(Call::Drop(1, 1, 1), ALTERED),
+    Step(Call::Withdraw, Ok(Done::Undone(Some(3)))),
+    Step(Call::Begin, ACCEPTED),
+    Step(Call::Drop(1, 1, 1), ALTERED),
+    Step(Call::Drop(1, 1, 2), UNALTERED),
+    Step(Call::Withdraw, Ok(Done::Undone(Some(1)))),
 ];
 
 /// Ranges of facts and stamps; the stamp before was 5.
-const RANGES: [Step; 16] = [
-    Step(Call::Begin, Answer::Done),
-    Step(Call::Put(16, 0, 0), Answer::Refused(23)),
-    Step(Call::Put(0, 65_536, 0), Answer::Refused(23)),
-    Step(Call::Put(0, 0, 1_000_000_001), Answer::Refused(23)),
-    Step(Call::Put(0, 0, -1_000_000_001), Answer::Refused(23)),
-    Step(Call::Drop(16, 0, 0), Answer::Refused(23)),
-    Step(Call::Drop(0, 65_536, 0), Answer::Refused(23)),
-    Step(Call::Drop(0, 0, 1_000_000_001), Answer::Refused(23)),
-    Step(Call::Drop(0, 0, -1_000_000_001), Answer::Refused(23)),
-    Step(Call::Commit(5), Answer::Refused(55)),
-    Step(Call::Commit(4_000_000_001), Answer::Refused(24)),
-    Step(Call::Commit(4_000_000_000), Answer::Done),
-    Step(Call::Verdict(1, 1), Answer::Verdict(Value::True)),
-    Step(Call::Verdict(1, 2), Answer::Refused(59)),
-    Step(Call::Verdict(10, 0), Answer::Refused(25)),
-    Step(Call::Verdict(0, 2), Answer::Refused(25)),
+const RANGES: [Step; 12] = [
+    Step(Call::Begin, ACCEPTED),
+    Step(Call::Put(16, 0, 0), Err(Refused(23))),
+    Step(Call::Put(0, 65_536, 0), Err(Refused(23))),
+    Step(Call::Put(0, 0, 1_000_000_001), Err(Refused(23))),
+    Step(Call::Put(0, 0, -1_000_000_001), Err(Refused(23))),
+    Step(Call::Drop(16, 0, 0), Err(Refused(23))),
+    Step(Call::Drop(0, 65_536, 0), Err(Refused(23))),
+    Step(Call::Drop(0, 0, 1_000_000_001), Err(Refused(23))),
+    Step(Call::Drop(0, 0, -1_000_000_001), Err(Refused(23))),
+    Step(Call::Commit(5), Err(Refused(55))),
+    Step(Call::Commit(4_000_000_001), Err(Refused(24))),
+    Step(Call::Commit(4_000_000_000), ACCEPTED),
+];
+
+/// Verdicts after the ranges.
+const VERDICTS: [Question; 4] = [
+    Question(1, 1, Ok(Value::True)),
+    Question(1, 2, Err(Refused(59))),
+    Question(10, 0, Err(Refused(25))),
+    Question(0, 2, Err(Refused(25))),
 ];
 
 /// Begin and finish with a change open, and after finish.
 const ENDINGS: [Step; 7] = [
-    Step(Call::Begin, Answer::Done),
-    Step(Call::Begin, Answer::Refused(52)),
-    Step(Call::Finish, Answer::Refused(52)),
-    Step(Call::Withdraw, Answer::Undone(Some(0))),
-    Step(Call::Finish, Answer::Done),
-    Step(Call::Finish, Answer::Refused(53)),
-    Step(Call::Begin, Answer::Refused(53)),
+    Step(Call::Begin, ACCEPTED),
+    Step(Call::Begin, Err(Refused(52))),
+    Step(Call::Finish, Err(Refused(52))),
+    Step(Call::Withdraw, Ok(Done::Undone(Some(0)))),
+    Step(Call::Finish, ACCEPTED),
+    Step(Call::Finish, Err(Refused(53))),
+    Step(Call::Begin, Err(Refused(53))),
 ];
 
 /// After 512 states, of stamps 0 to 511.
 const NO_FURTHER: [Step; 4] = [
-    Step(Call::Begin, Answer::Done),
-    Step(Call::Commit(512), Answer::Refused(56)),
-    Step(Call::Commit(511), Answer::Refused(55)),
-    Step(Call::Withdraw, Answer::Undone(Some(0))),
-];
-
-/// Finish with no state.
-const NO_STATE: [Step; 2] = [
-    Step(Call::Finish, Answer::Done),
-    Step(Call::Verdict(1, 0), Answer::Refused(59)),
+    Step(Call::Begin, ACCEPTED),
+    Step(Call::Commit(512), Err(Refused(56))),
+    Step(Call::Commit(511), Err(Refused(55))),
+    Step(Call::Withdraw, Ok(Done::Undone(Some(0)))),
 ];
 
 /// A store with the room of a session over it.
@@ -137,7 +141,7 @@ impl<S: Store> Holder<'_, '_, S> {
     fn step(&mut self, step: Step) {
         let Step(call, due) = step;
         let found = make(&mut self.session, &mut self.held, call);
-        self.tally.answer(found, due);
+        self.tally.answer(found, Some(due));
     }
 
     fn script(&mut self, steps: &[Step]) {
@@ -146,11 +150,16 @@ impl<S: Store> Holder<'_, '_, S> {
         }
     }
 
+    fn ask(&mut self, question: Question) {
+        let Question(rule, state, due) = question;
+        self.tally.answer(verdict(&self.session, rule, state), due);
+    }
+
     /// 64 facts of relation 0 in one change.
     fn sixty_four(&mut self) {
-        self.step(Step(Call::Begin, Answer::Done));
+        self.step(Step(Call::Begin, ACCEPTED));
         for key in 0..64 {
-            self.step(Step(Call::Put(0, key, 0), ADDED));
+            self.step(Step(Call::Put(0, key, 0), ALTERED));
         }
     }
 }
@@ -163,14 +172,17 @@ fn alterations<S: Store>(holder: &mut Holder<'_, '_, S>) {
 fn chain<S: Store>(holder: &mut Holder<'_, '_, S>) {
     holder.script(&WITHDRAWS);
     holder.script(&RANGES);
+    for question in VERDICTS {
+        holder.ask(question);
+    }
     holder.script(&ENDINGS);
 }
 
 /// 512 states, each in a change of its own, and no more.
 fn states<S: Store>(holder: &mut Holder<'_, '_, S>) {
     for stamp in 0..512 {
-        holder.step(Step(Call::Begin, Answer::Done));
-        holder.step(Step(Call::Commit(stamp), Answer::Done));
+        holder.step(Step(Call::Begin, ACCEPTED));
+        holder.step(Step(Call::Commit(stamp), ACCEPTED));
     }
     holder.script(&NO_FURTHER);
 }
@@ -178,14 +190,16 @@ fn states<S: Store>(holder: &mut Holder<'_, '_, S>) {
 /// A million changes, and no more.
 fn changes<S: Store>(holder: &mut Holder<'_, '_, S>) {
     for _ in 0..1_000_000 {
-        holder.step(Step(Call::Begin, Answer::Done));
-        holder.step(Step(Call::Withdraw, Answer::Undone(Some(0))));
+        holder.step(Step(Call::Begin, ACCEPTED));
+        holder.step(Step(Call::Withdraw, Ok(Done::Undone(Some(0)))));
     }
-    holder.step(Step(Call::Begin, Answer::Refused(54)));
+    holder.step(Step(Call::Begin, Err(Refused(54))));
 }
 
+/// A finish with no state.
 fn no_state<S: Store>(holder: &mut Holder<'_, '_, S>) {
-    holder.script(&NO_STATE);
+    holder.step(Step(Call::Finish, ACCEPTED));
+    holder.ask(Question(1, 0, Err(Refused(59))));
 }
 
 fn full<S: Store>(holder: &mut Holder<'_, '_, S>) {
@@ -200,23 +214,23 @@ fn wrong_slips<S: Store>(
     third: &mut Session<'_, S>,
     tally: &mut Tally,
 ) {
-    let refused = Answer::Refused(51);
-    let fact = Fact::new(0, 0, 0);
+    let refused = Some(Err(Refused(51)));
     let mut stray = third.begin().ok();
     let mut held = session.begin().ok();
-    tally.answer(put(session, &stray, fact), refused);
-    tally.answer(drop_fact(session, &stray, fact), refused);
-    tally.answer(make(session, &mut stray, Call::Commit(1)), refused);
-    tally.answer(give_back(session, stray), Answer::Undone(None));
+    for call in [Call::Put(0, 0, 0), Call::Drop(0, 0, 0), Call::Commit(1)] {
+        tally.answer(make(session, &mut stray, call), refused);
+    }
+    tally.answer(give_back(session, stray), Done::Undone(None));
     let twin = other.begin().ok();
     // Both slips have the same two numbers, so the twin ends this change, and its own slip is then an earlier change's.
-    tally.answer(give_back(session, twin), Answer::Undone(Some(0)));
+    tally.answer(give_back(session, twin), Done::Undone(Some(0)));
     let mut next = None;
-    tally.answer(make(session, &mut next, Call::Begin), Answer::Done);
-    tally.answer(put(session, &held, fact), refused);
-    tally.answer(make(session, &mut held, Call::Commit(1)), refused);
-    tally.answer(give_back(session, held), Answer::Undone(None));
-    tally.answer(give_back(session, next), Answer::Undone(Some(0)));
+    tally.answer(make(session, &mut next, Call::Begin), Some(ACCEPTED));
+    for call in [Call::Put(0, 0, 0), Call::Commit(1)] {
+        tally.answer(make(session, &mut held, call), refused);
+    }
+    tally.answer(give_back(session, held), Done::Undone(None));
+    tally.answer(give_back(session, next), Done::Undone(Some(0)));
 }
 
 /// The change number that a store's refusal has beside it.
@@ -233,20 +247,32 @@ fn not_taken<S: Store>(
     other: &mut Session<'_, S>,
     tally: &mut Tally,
 ) {
-    let beyond = Fact::new(0, 64, 0);
-    let held = session.begin().ok();
-    tally.answer(put(session, &held, Fact::new(0, 63, 63)), ADDED);
-    tally.answer(put(session, &held, beyond), Answer::Refused(31));
-    tally.answer(drop_fact(session, &held, beyond), NEITHER);
-    tally.answer(give_back(session, held), Answer::Undone(Some(1)));
+    let refused = Err(Refused(31));
+    let mut held = session.begin().ok();
+    tally.answer(
+        make(session, &mut held, Call::Put(0, 63, 63)),
+        Some(ALTERED),
+    );
+    tally.answer(make(session, &mut held, Call::Put(0, 64, 0)), Some(refused));
+    tally.answer(
+        make(session, &mut held, Call::Drop(0, 64, 0)),
+        Some(UNALTERED),
+    );
+    tally.answer(give_back(session, held), Done::Undone(Some(1)));
     let first = other.begin().ok();
-    tally.answer(give_back(other, first), Answer::Undone(Some(0)));
-    let stray = other.begin().ok();
-    tally.answer(put(session, &stray, beyond), Answer::Refused(31));
+    tally.answer(give_back(other, first), Done::Undone(Some(0)));
+    let mut stray = other.begin().ok();
+    tally.answer(
+        make(session, &mut stray, Call::Put(0, 64, 0)),
+        Some(refused),
+    );
     if let Some(slip) = &stray {
-        tally.answer(change_beside(session.put(slip, beyond)), Some(2));
+        tally.answer(
+            change_beside(session.put(slip, Fact::new(0, 64, 0))),
+            Some(2),
+        );
     }
-    tally.answer(give_back(other, stray), Answer::Undone(Some(0)));
+    tally.answer(give_back(other, stray), Done::Undone(Some(0)));
 }
 
 /// The rules of the sessions, and what was compared.

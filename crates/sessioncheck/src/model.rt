@@ -1,85 +1,106 @@
 //! A second session, kept the plainest way: unordered facts, and a copy of them at begin.
-use crate::calls::{Answer, Call};
-use crate::plain::{Record, State, Value};
-use std::alloc::{AllocError, Global};
+use crate::calls::{Answer, Call, Done, Refused};
+use crate::plain::{End, Record, State};
+use std::alloc::{AllocError, AllocFailed, Global};
+use std::ops::RangeInclusive;
 use store::Fact;
 
-/// The facts that a store takes, and how many it has room for.
+/// The keys and values that a store takes.
 #[derive(Clone, Copy)]
-pub struct Ground {
-    pub greatest_key: u32,
-    pub least_value: i32,
-    pub greatest_value: i32,
-    pub places: usize,
+struct Taken {
+    greatest_key: u32,
+    least_value: i32,
+    greatest_value: i32,
 }
 
-impl Ground {
-    fn takes(self, fact: Fact) -> bool {
+const IN_RANGE: Taken = Taken {
+    greatest_key: 65_535,
+    least_value: -1_000_000_000,
+    greatest_value: 1_000_000_000,
+};
+
+const IN_GRID: Taken = Taken {
+    greatest_key: 63,
+    least_value: 0,
+    greatest_value: 63,
+};
+
+impl Taken {
+    fn has(self, fact: Fact) -> bool {
         fact.key <= self.greatest_key
             && (self.least_value..=self.greatest_value).contains(&fact.value)
     }
 }
 
+/// Why a call of the model is not done.
+#[derive(Drop)]
+enum ModelError {
+    Refused(Refused),
+    OutOfMemory(AllocError),
+}
+
+impl From<Refused> for ModelError {
+    fn from(refused: Refused) -> ModelError {
+        ModelError::Refused(refused)
+    }
+}
+
+impl From<AllocError> for ModelError {
+    fn from(error: AllocError) -> ModelError {
+        ModelError::OutOfMemory(error)
+    }
+}
+
+impl<T: Drop> From<AllocFailed<T>> for ModelError {
+    fn from(failed: AllocFailed<T>) -> ModelError {
+        ModelError::OutOfMemory(failed.into())
+    }
+}
+
+/// Refuses with the number if the test holds.
+fn refuse_if(test: bool, number: u8) -> Result<(), Refused> {
+    if test { Err(Refused(number)) } else { Ok(()) }
+}
+
+/// Refuses a fact that is out of range.
+fn in_range(fact: Fact) -> Result<(), Refused> {
+    refuse_if(fact.relation >= 16 || !IN_RANGE.has(fact), 23)
+}
+
 // Stays: facts and states are no pairs: a state has the answers, and no facts.
-// Stays: `finished` stands beside nothing: a finished session keeps all else that it has.
 #[derive(Drop)]
 pub struct Model {
     heap: Global,
-    ground: Ground,
+    taken: Taken,
+    /// How many facts the store has room for.
+    places: usize,
     facts: Vec<Fact>,
     /// The facts at the begin of the change, while one is open.
     kept: Option<Vec<Fact>>,
     altered: usize,
     states: Vec<State>,
-    finished: bool,
-}
-
-const RANGE: Ground = Ground {
-    greatest_key: 65_535,
-    least_value: -1_000_000_000,
-    greatest_value: 1_000_000_000,
-    places: 0,
-};
-
-fn in_range(fact: Fact) -> bool {
-    fact.relation < 16 && RANGE.takes(fact)
-}
-
-/// The refusal of a fact that is out of range.
-fn out_of_range(fact: Fact) -> Option<Answer> {
-    if in_range(fact) {
-        None
-    } else {
-        Some(Answer::Refused(23))
-    }
+    end: End,
 }
 
 impl Model {
     pub fn of_list(heap: Global, places: usize) -> Model {
-        Model::new(heap, Ground { places, ..RANGE })
+        Model::new(heap, IN_RANGE, places)
     }
 
     pub fn of_grid(heap: Global) -> Model {
-        Model::new(
-            heap,
-            Ground {
-                greatest_key: 63,
-                least_value: 0,
-                greatest_value: 63,
-                places: 65_536,
-            },
-        )
+        Model::new(heap, IN_GRID, 65_536)
     }
 
-    fn new(heap: Global, ground: Ground) -> Model {
+    fn new(heap: Global, taken: Taken, places: usize) -> Model {
         Model {
             heap,
-            ground,
+            taken,
+            places,
             facts: Vec::new(heap),
             kept: None,
             altered: 0,
             states: Vec::new(heap),
-            finished: false,
+            end: End::Open,
         }
     }
 
@@ -87,131 +108,117 @@ impl Model {
         self.facts.contains(&fact)
     }
 
-    fn begin(&mut self) -> Result<Answer, AllocError> {
-        if self.kept.is_some() {
-            return Ok(Answer::Refused(52));
-        }
-        if self.finished {
-            return Ok(Answer::Refused(53));
-        }
-        self.kept = Some(Vec::from_slice(self.heap, self.facts.as_slice())?);
-        self.altered = 0;
-        Ok(Answer::Done)
+    /// Refuses a fact that is out of range, or that the store does not take.
+    fn takes(&self, fact: Fact) -> Result<(), Refused> {
+        in_range(fact)?;
+        refuse_if(!self.taken.has(fact), 31)
     }
 
-    /// The refusal of a fact that is out of range, or that the store does not take.
-    fn outside(&self, fact: Fact) -> Option<Answer> {
-        if in_range(fact) && !self.ground.takes(fact) {
-            Some(Answer::Refused(31))
-        } else {
-            out_of_range(fact)
-        }
+    /// Refuses while a change is open, and after finish.
+    fn between_changes(&self) -> Result<(), Refused> {
+        refuse_if(self.kept.is_some(), 52)?;
+        refuse_if(self.end == End::Finished, 53)
+    }
+
+    /// Refuses while no change is open.
+    fn in_change(&self) -> Result<(), Refused> {
+        refuse_if(self.kept.is_none(), 51)
+    }
+
+    fn begin(&mut self) -> Result<Done, ModelError> {
+        self.between_changes()?;
+        self.kept = Some(Vec::from_slice(self.heap, self.facts.as_slice())?);
+        self.altered = 0;
+        Ok(Done::Accepted)
     }
 
     /// What a put or a drop comes to with a slip that is not the open change's.
     // Stays: a call is data, given to the session and the model.
-    pub fn astray(&self, call: Call) -> Answer {
-        let outside = match call {
-            Call::Put(r, k, v) => self.outside(Fact::new(r, k, v)),
-            Call::Drop(r, k, v) => out_of_range(Fact::new(r, k, v)),
-            _ => Some(Answer::NoSlip),
+    pub fn astray(&self, call: Call) -> Option<Answer> {
+        let taken = match call {
+            Call::Put(r, k, v) => self.takes(Fact::new(r, k, v)),
+            Call::Drop(r, k, v) => in_range(Fact::new(r, k, v)),
+            _ => return None,
         };
-        outside.unwrap_or(Answer::Refused(51))
+        Some(taken.and(Err(Refused(51))))
     }
 
-    fn put(&mut self, fact: Fact) -> Result<Answer, AllocError> {
-        if let Some(refused) = self.outside(fact) {
-            return Ok(refused);
-        }
-        if self.kept.is_none() {
-            return Ok(Answer::Refused(51));
-        }
+    fn put(&mut self, fact: Fact) -> Result<Done, ModelError> {
+        self.takes(fact)?;
+        self.in_change()?;
         if self.has(fact) {
-            return Ok(Answer::Altered(false));
+            return Ok(Done::Altered(false));
         }
-        if self.altered >= 64 {
-            return Ok(Answer::Refused(57));
-        }
-        if self.facts.len() >= self.ground.places {
-            return Ok(Answer::Refused(58));
-        }
+        refuse_if(self.altered >= 64, 57)?;
+        refuse_if(self.facts.len() >= self.places, 58)?;
         self.facts.push(fact)?;
         self.altered = self.altered.saturating_add(1);
-        Ok(Answer::Altered(true))
+        Ok(Done::Altered(true))
     }
 
     fn drop_fact(&mut self, fact: Fact) -> Answer {
-        if let Some(refused) = out_of_range(fact) {
-            return refused;
-        }
-        if self.kept.is_none() {
-            return Answer::Refused(51);
-        }
+        in_range(fact)?;
+        self.in_change()?;
         if !self.has(fact) {
-            return Answer::Altered(false);
+            return Ok(Done::Altered(false));
         }
-        if self.altered >= 64 {
-            return Answer::Refused(57);
-        }
+        refuse_if(self.altered >= 64, 57)?;
         self.facts.retain(|other| *other != fact);
         self.altered = self.altered.saturating_add(1);
-        Answer::Altered(true)
+        Ok(Done::Altered(true))
     }
 
-    fn commit(&mut self, stamp: u64) -> Result<Answer, AllocError> {
-        if stamp > 4_000_000_000 {
-            return Ok(Answer::Refused(24));
-        }
-        if self.kept.is_none() {
-            return Ok(Answer::Refused(51));
-        }
-        if self.last_stamp().is_some_and(|last| stamp <= last) {
-            return Ok(Answer::Refused(55));
-        }
+    fn commit(&mut self, stamp: u64) -> Result<Done, ModelError> {
+        refuse_if(stamp > 4_000_000_000, 24)?;
+        self.in_change()?;
+        refuse_if(self.last_stamp().is_some_and(|last| stamp <= last), 55)?;
         let answers = self.answers();
         self.states.push(State { stamp, answers })?;
         self.kept = None;
-        Ok(Answer::Done)
+        Ok(Done::Accepted)
     }
 
-    fn withdraw(&mut self) -> Answer {
+    fn withdraw(&mut self) -> Done {
         let Some(facts) = self.kept.take() else {
-            return Answer::Undone(None);
+            return Done::Undone(None);
         };
         self.facts = facts;
-        Answer::Undone(Some(self.altered))
+        Done::Undone(Some(self.altered))
     }
 
     fn finish(&mut self) -> Answer {
-        if self.kept.is_some() {
-            return Answer::Refused(52);
-        }
-        if self.finished {
-            return Answer::Refused(53);
-        }
-        self.finished = true;
-        Answer::Done
+        self.between_changes()?;
+        self.end = End::Finished;
+        Ok(Done::Accepted)
     }
 
-    /// A call with the open change's slip; the model answers no verdict.
+    /// A call with the open change's slip.
     // Stays: a call is data, which lists hold and two sessions are given; a closure would be one session's alone.
-    pub fn make(&mut self, call: Call) -> Result<Answer, AllocError> {
+    fn done(&mut self, call: Call) -> Result<Done, ModelError> {
         Ok(match call {
             Call::Begin => self.begin()?,
             Call::Put(r, k, v) => self.put(Fact::new(r, k, v))?,
-            Call::Drop(r, k, v) => self.drop_fact(Fact::new(r, k, v)),
+            Call::Drop(r, k, v) => self.drop_fact(Fact::new(r, k, v))?,
             Call::Commit(stamp) => self.commit(stamp)?,
             Call::Withdraw => self.withdraw(),
-            Call::Finish => self.finish(),
-            Call::Verdict(_, _) => Answer::NoSlip,
+            Call::Finish => self.finish()?,
         })
     }
 
-    /// How many facts of a relation have a value from low to high.
-    fn count(&self, relation: u8, low: i32, high: i32) -> usize {
+    /// What a call with the open change's slip comes to.
+    pub fn make(&mut self, call: Call) -> Result<Answer, AllocError> {
+        match self.done(call) {
+            Ok(done) => Ok(Ok(done)),
+            Err(ModelError::Refused(refused)) => Ok(Err(refused)),
+            Err(ModelError::OutOfMemory(error)) => Err(error),
+        }
+    }
+
+    /// How many facts of a relation have one of the values.
+    fn count(&self, relation: u8, values: RangeInclusive<i32>) -> usize {
         let facts = self.facts.iter();
         facts
-            .filter(|fact| fact.relation == relation && (low..=high).contains(&fact.value))
+            .filter(|fact| fact.relation == relation && values.contains(&fact.value))
             .count()
     }
 
@@ -238,11 +245,11 @@ impl Model {
 
     /// The answers of the six queries of the rules.
     fn answers(&self) -> [bool; 6] {
-        let all = self.count(0, i32::MIN, i32::MAX);
+        let all = self.count(0, i32::MIN..=i32::MAX);
         [
-            self.count(0, 5, 9) > 0,
-            self.count(0, 0, 4) == all,
-            self.count(1, i32::MIN, i32::MAX) <= 2,
+            self.count(0, 5..=9) > 0,
+            self.count(0, 0..=4) == all,
+            self.count(1, i32::MIN..=i32::MAX) <= 2,
             self.refers(),
             self.has(Fact::new(2, 1, 3)),
             self.is_level(),
@@ -256,11 +263,7 @@ impl Model {
     pub fn record(&self) -> Record<'_> {
         Record {
             states: self.states.as_slice(),
-            end: if self.finished {
-                Value::False
-            } else {
-                Value::Undecided
-            },
+            end: self.end,
         }
     }
 }

@@ -31,8 +31,12 @@ impl Not for Value {
     }
 }
 
-/// The formulas of the rules, each after its parts; a leaf is the number of a query. A window has its lower bound and,
-/// if there is one, its upper bound.
+/// The least distance, and the greatest where there is one.
+// Stays: a type of its own, so that this evaluator shares no error with the other check's.
+#[derive(Clone, Copy)]
+pub struct Window(u64, Option<u64>);
+
+/// The formulas of the rules, each after its parts; a leaf is the number of a query.
 // Stays: the formulas are one table of constants, in whose order their columns stand; boxes would have to be made first.
 #[derive(Clone, Copy)]
 pub enum Formula {
@@ -41,11 +45,11 @@ pub enum Formula {
     Not(usize),
     And(usize, usize),
     Or(usize, usize),
-    Next(u64, Option<u64>, usize),
-    Sometime(u64, Option<u64>, usize),
-    Until(u64, Option<u64>, usize, usize),
-    Previous(u64, Option<u64>, usize),
-    Since(u64, Option<u64>, usize, usize),
+    Next(Window, usize),
+    Sometime(Window, usize),
+    Until(Window, usize, usize),
+    Previous(Window, usize),
+    Since(Window, usize, usize),
 }
 
 /// The six queries are formulas 0 to 5; each comment names the formula below it.
@@ -59,38 +63,38 @@ const FORMULAS: [Formula; 31] = [
     // 6: true
     Formula::Yes,
     // 7 to 9: rule 1, an implication
-    Formula::Sometime(0, Some(7), 1),
+    Formula::Sometime(Window(0, Some(7)), 1),
     Formula::Not(0),
     Formula::Or(8, 7),
     // 10 to 12: rule 2, an always
     Formula::Not(2),
-    Formula::Sometime(0, Some(10), 10),
+    Formula::Sometime(Window(0, Some(10)), 10),
     Formula::Not(11),
     // 13: rule 3
-    Formula::Until(0, Some(8), 3, 4),
+    Formula::Until(Window(0, Some(8)), 3, 4),
     // 14: rule 4
-    Formula::Next(1, Some(4), 5),
+    Formula::Next(Window(1, Some(4)), 5),
     // 15 to 17: rule 5, an allnext
     Formula::Not(4),
-    Formula::Next(0, Some(3), 15),
+    Formula::Next(Window(0, Some(3)), 15),
     Formula::Not(16),
     // 18: rule 6
-    Formula::Since(0, Some(9), 2, 0),
+    Formula::Since(Window(0, Some(9)), 2, 0),
     // 19 to 23: rule 7
-    Formula::Since(2, Some(6), 6, 4),
+    Formula::Since(Window(2, Some(6)), 6, 4),
     Formula::Not(1),
-    Formula::Since(0, Some(5), 6, 20),
+    Formula::Since(Window(0, Some(5)), 6, 20),
     Formula::Not(21),
     Formula::And(19, 22),
     // 24 to 29: rule 8
-    Formula::Previous(0, Some(3), 3),
+    Formula::Previous(Window(0, Some(3)), 3),
     Formula::Not(5),
-    Formula::Sometime(0, None, 25),
+    Formula::Sometime(Window(0, None), 25),
     Formula::Not(26),
     Formula::Not(27),
     Formula::Or(24, 28),
     // 30: rule 9
-    Formula::Sometime(1, None, 6),
+    Formula::Sometime(Window(1, None), 6),
 ];
 
 /// The formula of each rule, from rule 1 on.
@@ -103,12 +107,18 @@ pub struct State {
     pub answers: [bool; 6],
 }
 
+/// Whether states may still follow the last one.
+#[derive(Clone, Copy, PartialEq, Eq)]
+pub enum End {
+    Open,
+    Finished,
+}
+
 /// The states of a record.
 #[derive(Clone, Copy)]
 pub struct Record<'a> {
     pub states: &'a [State],
-    /// What is left open at the end.
-    pub end: Value,
+    pub end: End,
 }
 
 /// The values of the formulas before, formula by formula, and the states that they are the values at.
@@ -116,14 +126,6 @@ pub struct Record<'a> {
 struct Before<'a> {
     columns: &'a [Vec<Value>],
     record: Record<'a>,
-}
-
-/// The least distance, and the greatest where there is one.
-// Stays: a type of its own, so that this evaluator shares no error with the other check's.
-#[derive(Clone, Copy)]
-struct Window {
-    low: u64,
-    high: Option<u64>,
 }
 
 impl Before<'_> {
@@ -152,17 +154,19 @@ impl Before<'_> {
 
     /// Whether the time from one state to a later one lies in the window.
     fn is_within(self, w: Window, from: usize, to: usize) -> bool {
+        let Window(low, high) = w;
         let distance = self.stamp(to).saturating_sub(self.stamp(from));
-        w.low <= distance && w.high.is_none_or(|high| distance <= high)
+        low <= distance && high.is_none_or(|high| distance <= high)
     }
 
+    /// What the states that may still come leave open of a window ahead.
     fn open_mark(self, w: Window, i: usize) -> Value {
+        let Window(_, high) = w;
         let last = self.stamp(self.count().saturating_sub(1));
         let passed = last.saturating_sub(self.stamp(i));
-        if w.high.is_some_and(|high| passed >= high) {
-            Value::False
-        } else {
-            self.record.end
+        match self.record.end {
+            End::Open if high.is_none_or(|high| passed < high) => Value::Undecided,
+            _ => Value::False,
         }
     }
 
@@ -216,11 +220,11 @@ impl Before<'_> {
             Formula::Not(f) => !self.at(f, i),
             Formula::And(f, g) => self.at(f, i).min(self.at(g, i)),
             Formula::Or(f, g) => self.at(f, i).max(self.at(g, i)),
-            Formula::Next(low, high, f) => self.next(Window { low, high }, f, i),
-            Formula::Sometime(low, high, f) => self.sometime(Window { low, high }, f, i),
-            Formula::Until(low, high, f, g) => self.until(Window { low, high }, f, g, i),
-            Formula::Previous(low, high, f) => self.previous(Window { low, high }, f, i),
-            Formula::Since(low, high, f, g) => self.since(Window { low, high }, f, g, i),
+            Formula::Next(w, f) => self.next(w, f, i),
+            Formula::Sometime(w, f) => self.sometime(w, f, i),
+            Formula::Until(w, f, g) => self.until(w, f, g, i),
+            Formula::Previous(w, f) => self.previous(w, f, i),
+            Formula::Since(w, f, g) => self.since(w, f, g, i),
         }
     }
 }

@@ -1,5 +1,5 @@
 //! Random calls on a session and on the model.
-use crate::calls::{Answer, Call, give_back, make, verdict};
+use crate::calls::{Call, Refused, give_back, make, verdict};
 use crate::model::Model;
 use crate::plain::{evaluate, rule_value};
 use crate::tally::Tally;
@@ -58,15 +58,14 @@ impl<S: Store> Round<'_, '_, S> {
                     .verdict(verdict(&self.session, number, state), expected);
             }
             let beyond = verdict(&self.session, number, states);
-            self.tally.answer(beyond, Answer::Refused(59));
+            self.tally.answer(beyond, Err(Refused(59)));
         }
         Ok(())
     }
 
     /// A call with the slip that is held; nothing is compared where it needs one and none is held.
     fn call(&mut self, call: Call) -> Result<(), AllocError> {
-        let found = make(&mut self.session, &mut self.held, call);
-        if found != Answer::NoSlip {
+        if let Some(found) = make(&mut self.session, &mut self.held, call) {
             let expected = self.model.make(call)?;
             self.tally.answer(found, expected);
         }
@@ -79,7 +78,7 @@ impl<S: Store> Round<'_, '_, S> {
             return self.call(call);
         }
         let found = make(&mut self.session, &mut self.stray, call);
-        if found != Answer::NoSlip {
+        if found.is_some() {
             self.tally.answer(found, self.model.astray(call));
         }
         Ok(())

@@ -1,5 +1,5 @@
 //! What was compared.
-use crate::calls::Answer;
+use crate::calls::Refused;
 use crate::plain::Value;
 
 /// How many answers of calls and how many verdicts of each kind were compared, and how many of all were wrong.
@@ -20,14 +20,14 @@ impl Tally {
     }
 
     /// Compares a verdict.
-    pub fn verdict(&mut self, found: Answer, expected: Option<Value>) {
+    pub fn verdict(&mut self, found: Result<Value, Refused>, expected: Option<Value>) {
         let count = match expected {
             Some(Value::False) => &mut self.falses,
             Some(Value::Undecided) => &mut self.open,
             _ => &mut self.trues,
         };
         *count = count.wrapping_add(1);
-        self.hold(Some(found) == expected.map(Answer::Verdict));
+        self.hold(Some(found) == expected.map(Ok));
     }
 
     fn hold(&mut self, right: bool) {
