@@ -65,7 +65,96 @@ fn least(column: &[Value], from: usize, to: usize) -> Value {
         .unwrap_or(Value::Yes)
 }
 
-impl States<'_> {
+/// A state, from which an operator looks through its window over the others.
+#[derive(Clone, Copy)]
+struct Outlook<'a> {
+    states: States<'a>,
+    state: usize,
+    window: Bounds,
+}
+
+impl Outlook<'_> {
+    /// Whether the time from one state to a later one lies within the window.
+    fn within(self, from: usize, to: usize) -> bool {
+        let distance = self
+            .states
+            .stamp(to)
+            .saturating_sub(self.states.stamp(from));
+        self.window.contain(distance)
+    }
+
+    fn mark(self) -> Value {
+        let passed = self
+            .states
+            .last_stamp()
+            .saturating_sub(self.states.stamp(self.state));
+        match self.window.high {
+            Some(high) if passed >= high => Value::No,
+            _ => self.states.open,
+        }
+    }
+
+    // Stays: each function that calls a parameter has to ask that it may.
+    fn next<F: Fn(usize) -> Value>(self, value: F) -> Value
+        requires { F.IsAlwaysCallable value }
+    {
+        let next = self.state.saturating_add(1);
+        if next >= self.states.count() {
+            self.mark()
+        } else if self.within(self.state, next) {
+            value(next)
+        } else {
+            Value::No
+        }
+    }
+
+    fn previous<F: Fn(usize) -> Value>(self, value: F) -> Value
+        requires { F.IsAlwaysCallable value }
+    {
+        match self.state.checked_sub(1) {
+            Some(previous) if self.within(previous, self.state) => value(previous),
+            _ => Value::No,
+        }
+    }
+
+    /// The greatest value from the state on within the window, and what the record leaves open.
+    // Stays: with `map(value)` and `map(&value)` the check did not prove `fold-requires-clause-can`.
+    fn ahead<F: Fn(usize) -> Value>(self, open: Value, value: F) -> Value
+        requires { F.IsAlwaysCallable value }
+    {
+        (self.state..self.states.count())
+            .filter(|j| self.within(self.state, *j))
+            .map(|j| value(j))
+            .fold(open, Value::max)
+    }
+
+    /// The greatest value up to the state within the window.
+    // Stays: with `map(value)` and `map(&value)` the check did not prove `max-requires-clause-can`.
+    fn back<F: Fn(usize) -> Value>(self, value: F) -> Value
+        requires { F.IsAlwaysCallable value }
+    {
+        (0..=self.state)
+            .filter(|j| self.within(*j, self.state))
+            .map(|j| value(j))
+            .max()
+            .unwrap_or(Value::No)
+    }
+
+    fn until(self, f: &[Value], g: &[Value]) -> Value {
+        let kept = least(f, self.state, self.states.count());
+        self.ahead(
+            self.mark().min(kept),
+            |j| at(g, j).min(least(f, self.state, j)),
+        )
+    }
+
+    fn since(self, f: &[Value], g: &[Value]) -> Value {
+        let end = self.state.saturating_add(1);
+        self.back(|j| at(g, j).min(least(f, j.saturating_add(1), end)))
+    }
+}
+
+impl<'a> States<'a> {
     fn count(self) -> usize {
         self.record.stamps.len()
     }
@@ -74,99 +163,40 @@ impl States<'_> {
         self.record.stamps.get(state).copied().unwrap_or(0)
     }
 
-    /// Whether the time from one state to a later one lies within the window.
-    fn within(self, window: Bounds, from: usize, to: usize) -> bool {
-        window.contain(self.stamp(to).saturating_sub(self.stamp(from)))
+    fn last_stamp(self) -> u64 {
+        self.record.stamps.last().copied().unwrap_or(0)
     }
 
-    fn mark(self, window: Bounds, state: usize) -> Value {
-        let last = self.record.stamps.last().copied().unwrap_or(0);
-        match window.high {
-            Some(high) if last.saturating_sub(self.stamp(state)) >= high => Value::No,
-            _ => self.open,
+    fn outlook(self, state: usize, window: Bounds) -> Outlook<'a> {
+        Outlook {
+            states: self,
+            state,
+            window,
         }
-    }
-
-    // Stays: a struct of window and state would be built anew for each call, as the state changes with each.
-    // Stays: each function that calls a parameter has to ask that it may.
-    fn next<F: Fn(usize) -> Value>(self, window: Bounds, i: usize, value: F) -> Value
-        requires { F.IsAlwaysCallable value }
-    {
-        let next = i.saturating_add(1);
-        if next >= self.count() {
-            self.mark(window, i)
-        } else if self.within(window, i, next) {
-            value(next)
-        } else {
-            Value::No
-        }
-    }
-
-    fn previous<F: Fn(usize) -> Value>(self, window: Bounds, i: usize, value: F) -> Value
-        requires { F.IsAlwaysCallable value }
-    {
-        match i.checked_sub(1) {
-            Some(previous) if self.within(window, previous, i) => value(previous),
-            _ => Value::No,
-        }
-    }
-
-    /// The greatest value from a state on within the window, and what the record leaves open.
-    // Stays: with `map(value)` and `map(&value)` the check did not prove `fold-requires-clause-can`.
-    fn ahead<F: Fn(usize) -> Value>(self, window: Bounds, i: usize, open: Value, value: F) -> Value
-        requires { F.IsAlwaysCallable value }
-    {
-        (i..self.count())
-            .filter(|j| self.within(window, i, *j))
-            .map(|j| value(j))
-            .fold(open, Value::max)
-    }
-
-    /// The greatest value up to a state within the window.
-    // Stays: with `map(value)` and `map(&value)` the check did not prove `max-requires-clause-can`.
-    fn back<F: Fn(usize) -> Value>(self, window: Bounds, i: usize, value: F) -> Value
-        requires { F.IsAlwaysCallable value }
-    {
-        (0..=i)
-            .filter(|j| self.within(window, *j, i))
-            .map(|j| value(j))
-            .max()
-            .unwrap_or(Value::No)
     }
 
     fn of_one(self, operator: Operator, f: &[Value], i: usize) -> Value {
         let Some(window) = operator.window else {
             return !at(f, i);
         };
-        let mark = self.mark(window, i);
+        let outlook = self.outlook(i, window);
         match operator.form {
-            Form::Next => self.next(window, i, |j| at(f, j)),
-            Form::AllNext => !self.next(window, i, |j| !at(f, j)),
-            Form::Sometime => self.ahead(window, i, mark, |j| at(f, j)),
-            Form::Always => !self.ahead(window, i, mark, |j| !at(f, j)),
-            Form::Previous => self.previous(window, i, |j| at(f, j)),
-            Form::Once => self.back(window, i, |j| at(f, j)),
-            _ => !self.back(window, i, |j| !at(f, j)),
+            Form::Next => outlook.next(|j| at(f, j)),
+            Form::AllNext => !outlook.next(|j| !at(f, j)),
+            Form::Sometime => outlook.ahead(outlook.mark(), |j| at(f, j)),
+            Form::Always => !outlook.ahead(outlook.mark(), |j| !at(f, j)),
+            Form::Previous => outlook.previous(|j| at(f, j)),
+            Form::Once => outlook.back(|j| at(f, j)),
+            _ => !outlook.back(|j| !at(f, j)),
         }
-    }
-
-    fn until(self, window: Bounds, f: &[Value], g: &[Value], i: usize) -> Value {
-        let open = self.mark(window, i).min(least(f, i, self.count()));
-        self.ahead(window, i, open, |j| at(g, j).min(least(f, i, j)))
-    }
-
-    fn since(self, window: Bounds, f: &[Value], g: &[Value], i: usize) -> Value {
-        self.back(window, i, |j| {
-            at(g, j).min(least(f, j.saturating_add(1), i.saturating_add(1)))
-        })
     }
 
     fn of_two(self, operator: Operator, f: &[Value], g: &[Value], i: usize) -> Value {
         match (operator.form, operator.window) {
             (Form::And, _) => at(f, i).min(at(g, i)),
             (Form::Or, _) => at(f, i).max(at(g, i)),
-            (Form::Until, Some(window)) => self.until(window, f, g, i),
-            (Form::Since, Some(window)) => self.since(window, f, g, i),
+            (Form::Until, Some(window)) => self.outlook(i, window).until(f, g),
+            (Form::Since, Some(window)) => self.outlook(i, window).since(f, g),
             _ => (!at(f, i)).max(at(g, i)),
         }
     }
