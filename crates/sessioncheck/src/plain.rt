@@ -128,13 +128,92 @@ struct Before<'a> {
     record: Record<'a>,
 }
 
-impl Before<'_> {
+/// A state, from which an operator looks through its window over the others.
+#[derive(Clone, Copy)]
+struct Outlook<'a> {
+    before: Before<'a>,
+    window: Window,
+    state: usize,
+}
+
+impl Outlook<'_> {
+    /// Whether the time from one state to a later one lies in the window.
+    fn is_within(self, from: usize, to: usize) -> bool {
+        let Window(low, high) = self.window;
+        let distance = self.before.passed(from, to);
+        low <= distance && high.is_none_or(|high| distance <= high)
+    }
+
+    /// What the states that may still come leave open of a window ahead.
+    fn open_mark(self) -> Value {
+        let Window(_, high) = self.window;
+        let passed = self
+            .before
+            .passed(self.state, self.before.count().saturating_sub(1));
+        match self.before.record.end {
+            End::Open if high.is_none_or(|high| passed < high) => Value::Undecided,
+            _ => Value::False,
+        }
+    }
+
+    fn sometime(self, f: usize) -> Value {
+        (self.state..self.before.count())
+            .filter(|j| self.is_within(self.state, *j))
+            .fold(self.open_mark(), |value, j| value.max(self.before.at(f, j)))
+    }
+
+    fn until(self, f: usize, g: usize) -> Value {
+        let before = self.before;
+        let kept = before.least(f, self.state, before.count());
+        (self.state..before.count())
+            .filter(|j| self.is_within(self.state, *j))
+            .fold(kept.min(self.open_mark()), |value, j| {
+                value.max(before.at(g, j).min(before.least(f, self.state, j)))
+            })
+    }
+
+    fn since(self, f: usize, g: usize) -> Value {
+        let before = self.before;
+        let end = self.state.saturating_add(1);
+        (0..end)
+            .filter(|j| self.is_within(*j, self.state))
+            .fold(Value::False, |value, j| {
+                let kept = before.least(f, j.saturating_add(1), end);
+                value.max(before.at(g, j).min(kept))
+            })
+    }
+
+    fn next(self, f: usize) -> Value {
+        let j = self.state.saturating_add(1);
+        if j >= self.before.count() {
+            self.open_mark()
+        } else if self.is_within(self.state, j) {
+            self.before.at(f, j)
+        } else {
+            Value::False
+        }
+    }
+
+    fn previous(self, f: usize) -> Value {
+        match self.state.checked_sub(1) {
+            Some(j) if self.is_within(j, self.state) => self.before.at(f, j),
+            _ => Value::False,
+        }
+    }
+}
+
+impl<'a> Before<'a> {
     fn count(self) -> usize {
         self.record.states.len()
     }
 
     fn stamp(self, i: usize) -> u64 {
         self.record.states.get(i).map_or(0, |state| state.stamp)
+    }
+
+    /// The time from one state to a later one.
+    fn passed(self, from: usize, to: usize) -> u64 {
+        self.stamp(to).saturating_sub(self.stamp(from))
     }
 
     fn leaf(self, query: usize, i: usize) -> Value {
@@ -152,64 +231,11 @@ impl Before<'_> {
         (first..end).fold(Value::True, |value, k| value.min(self.at(f, k)))
     }
 
-    /// Whether the time from one state to a later one lies in the window.
-    fn is_within(self, w: Window, from: usize, to: usize) -> bool {
-        let Window(low, high) = w;
-        let distance = self.stamp(to).saturating_sub(self.stamp(from));
-        low <= distance && high.is_none_or(|high| distance <= high)
-    }
-
-    /// What the states that may still come leave open of a window ahead.
-    fn open_mark(self, w: Window, i: usize) -> Value {
-        let Window(_, high) = w;
-        let last = self.stamp(self.count().saturating_sub(1));
-        let passed = last.saturating_sub(self.stamp(i));
-        match self.record.end {
-            End::Open if high.is_none_or(|high| passed < high) => Value::Undecided,
-            _ => Value::False,
-        }
-    }
-
-    // Stays: a struct of window and state would be built anew for each call, as the state changes with each.
-    fn sometime(self, w: Window, f: usize, i: usize) -> Value {
-        (i..self.count())
-            .filter(|j| self.is_within(w, i, *j))
-            .fold(self.open_mark(w, i), |value, j| value.max(self.at(f, j)))
-    }
-
-    fn until(self, w: Window, f: usize, g: usize, i: usize) -> Value {
-        let kept = self.least(f, i, self.count());
-        (i..self.count())
-            .filter(|j| self.is_within(w, i, *j))
-            .fold(kept.min(self.open_mark(w, i)), |value, j| {
-                value.max(self.at(g, j).min(self.least(f, i, j)))
-            })
-    }
-
-    fn since(self, w: Window, f: usize, g: usize, i: usize) -> Value {
-        let end = i.saturating_add(1);
-        (0..end)
-            .filter(|j| self.is_within(w, *j, i))
-            .fold(Value::False, |value, j| {
-                value.max(self.at(g, j).min(self.least(f, j.saturating_add(1), end)))
-            })
-    }
-
-    fn next(self, w: Window, f: usize, i: usize) -> Value {
-        let j = i.saturating_add(1);
-        if j >= self.count() {
-            self.open_mark(w, i)
-        } else if self.is_within(w, i, j) {
-            self.at(f, j)
-        } else {
-            Value::False
-        }
-    }
-
-    fn previous(self, w: Window, f: usize, i: usize) -> Value {
-        match i.checked_sub(1) {
-            Some(j) if self.is_within(w, j, i) => self.at(f, j),
-            _ => Value::False,
+    fn outlook(self, state: usize, window: Window) -> Outlook<'a> {
+        Outlook {
+            before: self,
+            window,
+            state,
         }
     }
 
@@ -220,11 +246,11 @@ impl Before<'_> {
             Formula::Not(f) => !self.at(f, i),
             Formula::And(f, g) => self.at(f, i).min(self.at(g, i)),
             Formula::Or(f, g) => self.at(f, i).max(self.at(g, i)),
-            Formula::Next(w, f) => self.next(w, f, i),
-            Formula::Sometime(w, f) => self.sometime(w, f, i),
-            Formula::Until(w, f, g) => self.until(w, f, g, i),
-            Formula::Previous(w, f) => self.previous(w, f, i),
-            Formula::Since(w, f, g) => self.since(w, f, g, i),
+            Formula::Next(window, f) => self.outlook(i, window).next(f),
+            Formula::Sometime(window, f) => self.outlook(i, window).sometime(f),
+            Formula::Until(window, f, g) => self.outlook(i, window).until(f, g),
+            Formula::Previous(window, f) => self.outlook(i, window).previous(f),
+            Formula::Since(window, f, g) => self.outlook(i, window).since(f, g),
         }
     }
 }
