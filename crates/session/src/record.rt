@@ -52,8 +52,8 @@ impl<'t, S: Store> Session<'t, S> {
         store
     }
 
-    /// Closes the record, with or without states. Cost: a look at the value of each node at each state, and the
-    /// window of each that is undecided; no allocation.
+    /// Closes the record, with or without states. Cost: a look at the value of each node at each state from the first with
+    /// an undecided value on, and the window of each that is undecided; no allocation.
     ///
     /// Refused with 52 while a change is open, 53 after finish.
     pub fn finish(&mut self) -> Result<(), SessionFault>
