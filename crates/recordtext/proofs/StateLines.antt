@@ -1,8 +1,8 @@
 -- The lines of states.
-use Rattle.std.proofs.Common.{rules, ◌≡◌, ℕ, ◌+◌, ◌^◌, ◌<◌, ◌≤◌, min, Bool, true, false, cond, eqb, ltb, List, [], ◌∷◌, ◌++◌, length, get_or, take, drop, Some, None, Ok, Err, Option, Result, IsUtf8, codes, decimal, sym, refl, ap, ◌∙◌, subst, ap₂, ⊎_elim, append_assoc, append-nil, arith, take-append-drop}
+use Rattle.std.proofs.Common.{rules, ◌≡◌, ℕ, ◌+◌, ◌-◌, ◌^◌, ◌<◌, ◌≤◌, true, false, cond, eqb, ltb, List, [], ◌∷◌, ◌++◌, length, get_or, take, drop, Some, None, Ok, Err, Option, Result, IsUtf8, codes, decimal, sym, refl, ap, ◌∙◌, subst, ap₂, ⊎_elim, append_assoc, append-nil, arith, take-append-drop, take_all, length-drop}
 use Rattle.std.specs.Result.{MatchResult, result_ok}
 use Rattle.std.specs.Str.Pattern.{FindsTextPrefix, StripsPrefix}
-use Rattle.std.specs.List.{All, IsFirstMatchOrLen, position, position_or_len}
+use Rattle.std.specs.List.{All, position, position_or_len}
 use Rattle.std.proofs.lemmas.List.{length-append, length_push, get_or_append_left, get_or_at, get_or_push, take_at, take_more, append_cancel_right, append_cancel_left}
 use Rattle.std.proofs.lemmas.List.Elements.{All-append, All-from_recursion, All-from_get_or, All-get_or}
 use Rattle.std.proofs.lemmas.List.Sums.{position_or_len_is}
@@ -46,9 +46,6 @@ numbers_from text pair stamp row closed apart = closed ∙ ap (λ xs. xs ++ (41 
 joined_all : (P : ℕ → Type 0) (a b c d e : List ℕ) → All P a → All P b → All P c → All P d → All P e → All P (a ++ (b ++ (c ++ (d ++ e))))
 joined_all P a b c d e pa pb pc pd pe = All-append P a _ pa (All-append P b _ pb (All-append P c _ pc (All-append P d e pd pe)))
 
-clash : (b : Bool) → b ≡ true → b ≡ false → ⊥
-clash b t f = cc
-
 module _ (t w : ℕ) (ts : t < 2 ^ 64) (ws : w < 2 ^ 64) where
   pub pair_of : (text pair : List ℕ) → text ≡ numbers t w → text ≡ pair ++ (41 ∷ []) → pair ≡ decimal t ++ (32 ∷ decimal w)
   pair_of text pair is closed = append_cancel_right pair (decimal t ++ (32 ∷ decimal w)) (41 ∷ []) (sym closed ∙ is ∙ sym (append_assoc (decimal t) (32 ∷ decimal w) (41 ∷ [])))
@@ -89,22 +86,6 @@ module _ (t w : ℕ) (ts : t < 2 ^ 64) (ws : w < 2 ^ 64) where
   body_before_newline text tail n is found =
       ap (take n) (is ∙ append_assoc (state_body t w) (10 ∷ []) tail) ∙ take_at (state_body t w) (10 ∷ tail) n (sym (same_Some _ _ (found ∙ newline_at text tail is)))
 
-  -- the line of a state is all that comes up to the first newline
-  pub whole_line : (rest x more tail : List ℕ) (i : ℕ) → rest ≡ x ++ more → length x ≡ min (i + 1) (length rest) → IsFirstMatchOrLen (λ b. eqb b 10) rest i → rest ≡ state_line t w ++ tail → x ≡ state_line t w
-  whole_line rest x more tail i parts long first is =
-      let n = length (state_body t w) in
-      let at = position-Some (λ b. eqb b 10) rest n 0 (newline_at rest tail is) in
-      let high : i ≤ n = ⊎_elim (λ lt. absurd (clash _ at.1 (first.0 n 0 (omega arith) lt))) (λ le. le) (cases_lt n i) in
-      let low : n ≤ i = ⊎_elim (λ lt. absurd (clash _ (first.1 (omega (arith, at.0)) 0) (at.2 i lt))) (λ le. le) (cases_lt i n) in
-      let here : length x ≡ n + 1 = omega (arith, at.0) in
-      sym (take_at x more (n + 1) here) ∙ ap (take (n + 1)) (sym parts ∙ is) ∙ take_at (state_line t w) tail (n + 1) (length-append (state_body t w) (10 ∷ []))
-
-  -- so a line that begins with it is no longer
-  pub whole_front : (rest x more : List ℕ) (i n : ℕ) → rest ≡ x ++ more → length x ≡ min (i + 1) (length rest) → IsFirstMatchOrLen (λ b. eqb b 10) rest i → take n x ≡ state_line t w → x ≡ state_line t w
-  whole_front rest x more i n parts long first front =
-      let cut : x ≡ state_line t w ++ drop n x = sym (take-append-drop n x) ∙ ap (λ xs. xs ++ drop n x) front in
-      whole_line rest x more (drop n x ++ more) i parts long first (parts ∙ ap (λ xs. xs ++ more) cut ∙ append_assoc (state_line t w) (drop n x) more)
-
 -- a body and its newline
 pub line_at : (text : List ℕ) (n t w : ℕ) → Some n ≡ position (λ b. eqb b 10) text → take n text ≡ state_body t w → (take (n + 1) text ≡ state_line t w) × (n + 1 ≤ length text)
 line_at text n t w found body =
@@ -112,6 +93,10 @@ line_at text n t w found body =
     (take_more text n 0 at.0 ∙ ap₂ (λ xs b. xs ++ (b ∷ [])) body (eqb-true _ 10 at.1), omega (arith, at.0))
 
 -- ---- all lines
+
+-- a front, and what stands behind it
+pub behind : (text : List ℕ) (n : ℕ) → text ≡ take n text ++ take (length text - n) (drop n text)
+behind text n = sym (take-append-drop n text) ∙ ap (λ xs. take n text ++ xs) (sym (take_all (length text - n) (drop n text) (omega (arith, length-drop n text))))
 
 pub record_push : (ts ws : List ℕ) (t w : ℕ) → length ts ≡ length ws → record_text (ts ++ (t ∷ [])) (ws ++ (w ∷ [])) ≡ record_text ts ws ++ state_line t w
 record_push [] [] t w e = append-nil (state_line t w)

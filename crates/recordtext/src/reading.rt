@@ -1,6 +1,4 @@
 //! Reading a record from its text.
-ghost use Rattle.std.specs.Prelude.{◌≡◌, ◌==◌};
-ghost use Rattle.std.specs.List.{position};
 ghost use Rattle.recordtext.specs.Reads.{Spelt, Numbers, Body, Front, Reads};
 
 use crate::state::{ReadError, RecordText, State, StateLine};
@@ -35,25 +33,11 @@ pub fn state_of(line: &[u8]) -> Option<State>
     two_numbers(line.strip_prefix("(state ")?)
 }
 
-/// Whether a byte ends a line.
-fn is_newline(byte: &u8) -> bool
-    ensures { result ≡ (byte.now == 10) }
-{
-    *byte == b'\n'
-}
-
-/// The place of the first newline.
-fn newline(text: &[u8]) -> Option<usize>
-    ensures { result ≡ position (λ b. b == 10) text.now }
-{
-    text.iter().position(|byte| is_newline(byte))
-}
-
 /// The state on the first line of a text. Cost: linear in that line.
 pub fn first_state(text: &[u8]) -> Option<StateLine>
     ensures { Front text.now result }
 {
-    let end = newline(text)?;
+    let end = text.iter().position(|b| *b == b'\n')?;
     let state = state_of(&text[..end])?;
     Some(StateLine {
         state,
@@ -67,10 +51,12 @@ pub fn read(heap: Global, text: &[u8]) -> Result<RecordText, ReadError>
 {
     let mut stamps = Vec::new(heap);
     let mut rows = Vec::new(heap);
-    for line in text.split_inclusive(|byte| is_newline(byte)) {
-        let line = first_state(line).ok_or(ReadError::BadLine(stamps.len() + 1))?;
+    let mut rest = text;
+    while !rest.is_empty() {
+        let line = first_state(rest).ok_or(ReadError::BadLine(stamps.len() + 1))?;
         stamps.push(line.state.stamp)?;
         rows.push(line.state.row)?;
+        rest = &rest[line.length..];
     }
     Ok(RecordText { stamps, rows })
 }
