@@ -13,13 +13,7 @@ pub fn report(heap: Global, text: &[u8]) -> Result<Report, AllocError>
     ensures { IfOk result (Reports text.now) }
 {
     match Table::new(heap)?.read(text) {
-        Ok(table) => Ok(Report {
-            text: table_report(heap, &table)?,
-            accepted: true,
-        }),
-        Err(fault) => Ok(Report {
-            text: fault_report(heap, text, fault)?,
-            accepted: false,
-        }),
+        Ok(table) => Ok(Report::Accepted(table_report(heap, &table)?)),
+        Err(fault) => Ok(Report::Faulty(fault_report(heap, text, fault)?)),
     }
 }

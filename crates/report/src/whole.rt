@@ -1,9 +1,8 @@
 //! A report as it is handed out.
 
-/// What is to be printed, and whether the file was accepted.
-// Stays: each caller prints the text in either case; with an enum both would match to reach it.
+/// What is to be printed of a rule file, by what became of the file.
 #[derive(Drop)]
-pub struct Report {
-    pub text: Vec<u8>,
-    pub accepted: bool,
+pub enum Report {
+    Accepted(Vec<u8>),
+    Faulty(Vec<u8>),
 }

@@ -12,6 +12,7 @@ use crate::escape::unescape;
 use crate::outcome::outcome;
 use anyhow::{bail, ensure};
 use report::report::report;
+use report::whole::Report;
 use std::alloc::Global;
 use std::io::Write;
 
@@ -23,9 +24,8 @@ fn try_case(rt: &HostRuntime, heap: Global, case: Case) -> anyhow::Result<bool> 
     let name = case.name;
     let expected = case.expected;
     println!(rt; "{name}: expected {expected}, got {came}")?;
-    let report = report(heap, text.as_slice())?;
-    if !report.accepted {
-        rt.stdout().write_all(report.text.as_slice())?;
+    if let Report::Faulty(fault) = report(heap, text.as_slice())? {
+        rt.stdout().write_all(fault.as_slice())?;
     }
     Ok(same)
 }

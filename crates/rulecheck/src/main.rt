@@ -2,6 +2,7 @@
 #![tactic(auto)]
 
 use report::report::report;
+use report::whole::Report;
 use std::io::{Read, Write};
 use std::process::ExitCode;
 use std::{env, fs};
@@ -15,19 +16,17 @@ fn input(rt: &HostRuntime) -> anyhow::Result<Vec<u8>> {
     Ok(text)
 }
 
-/// Prints the report; whether the file was accepted.
-fn run(rt: &HostRuntime) -> anyhow::Result<bool> {
+/// Prints the report. Ends with status 1 for a faulty file.
+fn run(rt: &HostRuntime) -> anyhow::Result<ExitCode> {
     let text = input(rt)?;
-    let report = report(rt.alloc(), text.as_slice())?;
-    rt.stdout().write_all(report.text.as_slice())?;
-    Ok(report.accepted)
+    let (printed, code) = match report(rt.alloc(), text.as_slice())? {
+        Report::Accepted(rules) => (rules, ExitCode::SUCCESS),
+        Report::Faulty(fault) => (fault, ExitCode::FAILURE),
+    };
+    rt.stdout().write_all(printed.as_slice())?;
+    Ok(code)
 }
 
-/// Ends with status 1 for a faulty file.
 fn main(rt: HostRuntime) -> anyhow::Result<ExitCode> {
-    if run(&rt)? {
-        Ok(ExitCode::SUCCESS)
-    } else {
-        Ok(ExitCode::FAILURE)
-    }
+    run(&rt)
 }
