@@ -72,3 +72,32 @@ pub fn output(heap: Global, rules: &[u8], text: &[u8]) -> Result<String, AllocEr
         ),
     }
 }
+
+#[cfg(test)]
+mod tests {
+    use super::output;
+    use std::test::Fail;
+
+    /// No clause can say that memory is left: each kind of answer is seen to come.
+    #[test]
+    fn each_answer_comes(rt: HostRuntime) -> Result<(), Fail> {
+        for (rules, record, wanted) in [
+            ("(rule 1 (true))\n", "(state 5 0)\n", "(verdict 1 0 T)\n"),
+            ("(rule 01 (true))\n", "(state 5 0)\n", "(fault 12 1 7)\n"),
+            (
+                "(rule 1 (true))\n",
+                "(state 5 0)\n(state 5 0)\n",
+                "(refused 22)\n",
+            ),
+            (
+                "(rule 1 (true))\n",
+                "(state 5 0)\n(state 06 0)\n",
+                "(bad 2)\n",
+            ),
+        ] {
+            let text = output(rt.alloc(), rules.as_bytes(), record.as_bytes())?;
+            assert_eq!(rt; text.as_str(), wanted);
+        }
+        Ok(())
+    }
+}
