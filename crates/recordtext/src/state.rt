@@ -11,7 +11,7 @@ pub struct State {
     pub row: u64,
 }
 
-/// The state on the first line of a text, and the number of bytes of that line.
+/// The state on the first line of a text, and the number of bytes of that line with its newline.
 #[derive(Clone, Copy, PartialEq, Eq, Debug)]
 pub struct StateLine {
     pub state: State,
