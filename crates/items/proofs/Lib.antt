@@ -5,3 +5,4 @@ pub mod Numerals
 pub mod Spelling
 pub mod CutAgain
 pub mod Cuts
+pub mod Marks

@@ -1,13 +1,14 @@
 -- The first run of a text.
-use Rattle.std.proofs.Common.{◌≡◌, ℕ, suc, ◌+◌, ◌-◌, ◌<◌, ◌≤◌, Bool, true, false, cond, List, [], ◌∷◌, length, take, drop, refl, ap, ◌∙◌, subst, arith}
+use Rattle.std.proofs.Common.{◌≡◌, ℕ, suc, ◌+◌, ◌-◌, ◌<◌, ◌≤◌, Bool, true, false, cond, List, [], ◌∷◌, length, take, drop, get_or, not, ◌||◌, sym, refl, ap, ap₂, ◌∙◌, subst, arith}
 use Rattle.std.proofs.lemmas.List.{take_all}
 use Rattle.std.proofs.lemmas.List.Folds.{length-prefix_len}
 use Rattle.std.specs.List.{prefix_len, take_while}
 use Rattle.items.specs.declared.cut.Class.{Class}
+use Rattle.items.specs.Marks.{stands_alone}
 use Rattle.items.specs.Items.{class_of, letter, digit, is_letter, is_digit, goes_on, joins, before, runs, first as first_byte}
 
 -- a text's first run begins with its first byte
-begins_before : (y : ℕ) (bss : List (List ℕ)) → (cs : List ℕ) × (rs : List (List ℕ)) × (before y bss ≡ (y ∷ cs) ∷ rs)
+pub begins_before : (y : ℕ) (bss : List (List ℕ)) → (cs : List ℕ) × (rs : List (List ℕ)) × (before y bss ≡ (y ∷ cs) ∷ rs)
 begins_before y [] = ([], [], refl)
 begins_before y ([] ∷ rs) = ([], rs, refl)
 begins_before y ((c ∷ cs) ∷ rs) =
@@ -63,3 +64,14 @@ first k (x ∷ xs) n h c e =
     let m : n ≡ prefix_len (goes_on (class_of x)) xs = e ∙ length-prefix_len (goes_on k) (take (suc (length xs) - 1) xs) ∙ ap (prefix_len (goes_on k)) all ∙ ap (λ k. prefix_len (goes_on k) xs) c in
     let s : suc (prefix_len (goes_on (class_of x)) xs) ≡ 1 + n = omega (arith, m) in
     subst (First (x ∷ xs)) s (first_run x xs)
+
+-- a byte that joins no other is a run by itself
+lone : (k : Class) (y : ℕ) → not (is_letter k || is_digit k) ≡ true → goes_on k y ≡ false
+lone k y h = grind arith
+
+pub lone_run : (b d : ℕ) (text : List ℕ) → stands_alone b ≡ true → 1 ≤ length text → get_or text 0 d ≡ b → runs text ≡ (b ∷ []) ∷ runs (take (length text - 1) (drop 1 text))
+lone_run b d [] s l e = absurd (omega arith)
+lone_run b d (x ∷ xs) s l e =
+    let all : take (suc (length xs) - 1) xs ≡ xs = take_all _ xs (omega arith) in
+    let own : runs (x ∷ xs) ≡ (x ∷ []) ∷ runs xs = alone x xs (λ y zs _. joins_on x y ∙ lone (class_of x) y (subst (λ c. stands_alone c ≡ true) (sym e) s)) in
+    own ∙ ap₂ (λ c cs. (c ∷ []) ∷ runs cs) e (sym all)

@@ -64,7 +64,7 @@ runs_join (b ∷ bs) =
     (m.0, m.1 ∙ ap (λ x. b ∷ x) r.1)
 
 -- what a byte's class says of it
-abbrev Means : Class → ℕ → Type 0
+abbrev pub Means : Class → ℕ → Type 0
 Means class.Open b = b ≡ 40
 Means class.Close b = b ≡ 41
 Means class.Space b = b ≡ 32
@@ -73,7 +73,7 @@ Means class.Letter b = Unit {0}
 Means class.Digit b = Unit {0}
 Means class.Other b = Unit {0}
 
-means : (b : ℕ) → Means (class_of b) b
+pub means : (b : ℕ) → Means (class_of b) b
 means b = search rules
 
 -- a byte that joins nothing is a run by itself

@@ -1,3 +1,4 @@
 pub mod Items
 pub mod Cursors
 pub mod Tokens
+pub mod Marks

@@ -61,7 +61,7 @@ pub struct Item {
 
 impl Item {
     /// The number that it is; every item but a number has the number 0. Cost: constant.
-    // Stays: by the definitions an item that is no number has the number 0, so there is no none to answer.
+    // Stays: the word `end` counts as 0 where the next argument is held to be no smaller, so there is no none to answer.
     pub fn number(self) -> i64
         ensures { result ≡ item_number self }
     {

@@ -1,7 +1,8 @@
 //! Takes one item after another.
 ghost use Rattle.std.specs.Prelude.{◌≡◌, ◌<◌, ◌≤◌, true, length, pos, IfOk};
 ghost use Rattle.grammar.specs.Entries.{entry_of};
-ghost use Rattle.grammar.specs.Reading.{next, any, is, arg as expected-arg, argument as fits_slot, opening as form-opening, closing as form-closing, word as form_word};
+ghost use Rattle.grammar.specs.declared.fault.FaultKind.TheVariants.{Misfit};
+ghost use Rattle.grammar.specs.Reading.{fault_at, next, any, is, arg as expected-arg, argument as fits_slot, opening as form-opening, closing as form-closing, word as form_word};
 ghost use Rattle.grammar.specs.Files.{rule_opening};
 ghost use Rattle.rules.specs.Fitting.{Fitting};
 ghost use Rattle.rules.specs.Reads.{state_of, Reads, ReadsAs, args_from, is_bare};
@@ -32,11 +33,20 @@ fn arg(item: Item) -> Option<i64>
 }
 
 impl<'a> Reader<'a> {
+    /// Another item is wanted here.
+    fn misfit(&self) -> ReadFault
+        ensures { result ≡ fault_at (state_of self.now) Misfit }
+    {
+        fault(FaultKind::Misfit, self.items.place())
+    }
+
     fn item(&mut self) -> Result<Item, ReadFault>
         ensures { Reads result (next any (state_of self.old)) (state_of self.new) }
     {
-        let place = self.items.place();
-        self.items.take().ok_or(fault(FaultKind::Misfit, place))
+        match self.items.take() {
+            Some(item) => Ok(item),
+            None => Err(self.misfit()),
+        }
     }
 
     /// An item of this kind, which holds nothing more.
@@ -44,13 +54,14 @@ impl<'a> Reader<'a> {
         requires { is_bare kind ≡ true }
         ensures { Reads result (next (is kind) (state_of self.old)) (state_of self.new) }
     {
-        let item = self.item()?;
-        if item.kind != kind {
-            return Err(fault(FaultKind::Misfit, item.place));
+        if !self.items.take_if(kind) {
+            return Err(self.misfit());
         }
         Ok(())
     }
 
+    // Stays: apart from `word`, since one function for any test would owe in its contract how the closure's answer is the
+    // test's, and each of the two has two lines.
     pub(crate) fn argument(&mut self, slot: Slot, before: i64) -> Result<Item, ReadFault>
         ensures { Reads result (next (fits_slot slot before) (state_of self.old)) (state_of self.new) }
     {
@@ -72,11 +83,12 @@ impl<'a> Reader<'a> {
     pub(crate) fn opening(&mut self, levels: usize) -> Result<Form, ReadFault>
         ensures { Reads result (form-opening levels (state_of self.old)) (state_of self.new) }
     {
-        let place = self.items.place();
-        self.expect(Kind::Open)?;
         if levels == 0 || self.opened >= 64 {
+            let place = self.items.place();
+            self.expect(Kind::Open)?;
             return Err(fault(FaultKind::TooMany, place));
         }
+        self.expect(Kind::Open)?;
         self.opened += 1;
         self.word()
     }
