@@ -24,7 +24,8 @@ use truth::Three;
 /// which is what the definitions give for the stamps and rows. At the first `settled` states no value is undecided.
 // Stays: stamps and rows are two vectors: the evaluator takes stamps as a slice, and pairs would have to be copied at
 // each push, which allocates nothing.
-// Stays: `finished` is no value's flag: a finished record keeps every field, and the values only mean another record.
+// Stays: `finished` is no value's flag: running and finished records have the same fields and methods, and `push` and
+// `finish` are published on this one type, so two types would hold and do everything twice.
 #[derive(Drop)]
 pub struct EvaluatedRecord<'t> {
     pub(crate) table: &'t Table,
@@ -236,7 +237,7 @@ fn evaluate_rest(
         standing,
     };
     evaluation.settle_all(values.as_mut_slice());
-    from + whole_rows(count_decided(values.as_slice(), from * nodes), nodes)
+    from + whole_rows(count_decided(&values[from * nodes..]), nodes)
 }
 
 /// How many rows of that many nodes so many values fill; none where a row has no value.

@@ -22,8 +22,9 @@ use rules::table::Table;
 use syntax::{Node, Window};
 use truth::Truth;
 
-// Stays: the values are a parameter. A struct that kept them by `&mut` would have to say in each contract that the
-// reference and each other field are as they were.
+// Stays: the values are a parameter, read by `&` in four functions and written by `&mut` in four. A struct that held them
+// by `&mut` would have to say in each contract that its other fields are as they were, and one to read them by would be
+// made anew after each value that is written.
 impl<K: Truth, L: Leaves<K>, S: Standing<K>> Evaluation<'_, K, L, S> {
     /// Node `m`.
     fn node(&self, m: usize) -> Node
@@ -179,7 +180,7 @@ fn has_room(states: usize, nodes: usize, places: usize) -> bool
 /// Puts the value of node m at state i to place i * nodes + m of `values`, for every node of the table at every state,
 /// or refuses and leaves `values` as it was.
 /// `pending` is what an open mark is where it is not no: undecided while the record runs, no once it is finished.
-/// Cost: for each temporal operator the states times those in its window; no room beyond `values`.
+/// Cost: for each temporal operator the states times those up to its window's end; no room beyond `values`.
 pub fn evaluate<K: Truth, L: Leaves<K>>(
     table: &Table,
     stamps: &[u64],

@@ -29,7 +29,8 @@ fn turn<K: Truth, F: Operand<K>, G: Operand<K>>(first: &F, second: &G, held: K, 
     (second.read(j).and(held), on)
 }
 
-// Stays: an operand comes with each call, which has to ask that it has a value wherever the outlook may look.
+// Stays: each call asks that its operand covers the outlook. A struct of both would be made for that one call, and until
+// and since have two operands.
 impl Outlook<'_> {
     /// The distance to state `j`, 0 if that comes first.
     fn ahead(&self, j: usize) -> u64
@@ -134,7 +135,7 @@ impl Outlook<'_> {
         let start = self.past_start();
         let mut any = K::no();
         let mut held = K::yes();
-        // Stays: a fold would be as long as that of `until`.
+        // Stays: a fold would carry both values in a pair, and its closure ask for the place and both operands.
         for j in (start..self.state + 1).rev() {
             let (here, on) = turn(first, second, held, j);
             any = only_if(contains(self.window, self.behind(j)), here).or(any);

@@ -1,5 +1,5 @@
 //! Which of the values that stand in their places need not be worked out again.
-ghost use Rattle.std.specs.Prelude.{◌≡◌, ◌≤◌, ℕ, Bool, false, length, drop, take_while};
+ghost use Rattle.std.specs.Prelude.{◌≡◌, ◌≤◌, ℕ, Bool, false, length, take_while};
 ghost use Rattle.eval.specs.Standing.{decided, stays_decided};
 
 use truth::{Three, Truth};
@@ -60,13 +60,12 @@ impl Standing<Three> for Decided {
     }
 }
 
-/// How many values from a place on are true or false. Cost: the values up to the first that is undecided.
-pub(crate) fn count_decided(values: &[Three], from: usize) -> usize
-    ensures { result ≡ length (take_while decided (drop from values.now)) }
+/// How many values from the front on are true or false. Cost: those, and the first that is undecided.
+pub(crate) fn count_decided(values: &[Three]) -> usize
+    ensures { result ≡ length (take_while decided values.now) }
 {
     values
         .iter()
-        .skip(from)
         .take_while(|value| is_decided(**value))
         .count()
 }

@@ -10,7 +10,8 @@ use items::item::Form;
 use syntax::{Node, Query, Window};
 
 /// A form without operands.
-// Stays: form and arguments are read apart, and a struct for the pair would be made and taken apart at each formula.
+// Stays: `formula` needs the form apart, for its slots and its arity, so a struct of form and arguments, which would say once
+// that they fit, would be made of both for the one call that builds the node.
 pub(crate) fn leaf(form: Form, args: &[Option<i64>]) -> Node
     requires none { arity form ≡ Zero }
     requires fits { Fitting (slots form) args.now }

@@ -33,7 +33,7 @@ impl Table {
     }
 
     /// The table that a text spells, in this table's room, or the first fault of the text.
-    /// Cost: linear in the text up to the first fault, and not more than an accepted file can be long.
+    /// Cost: linear in the text up to the end of the item that is at fault.
     pub fn read(self, text: &[u8]) -> Result<Table, ReadFault>
         ensures answer { Answers text.now result }
         ensures law { Accepts text.now result }

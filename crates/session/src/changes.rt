@@ -13,7 +13,7 @@ use query::row;
 use store::{Fact, Store, is_in_range};
 
 impl<'t, S: Store> Session<'t, S> {
-    /// Opens a change and gives its slip. Cost: the alterations of the change before are let go.
+    /// Opens a change and gives its slip. Cost: constant.
     ///
     /// Refused with 52 while a change is open, 53 after finish, 54 after a million changes.
     pub fn begin(&mut self) -> Result<Slip, SessionFault>

@@ -4,7 +4,6 @@ ghost use Rattle.session.specs.Book.{Opened, Pasts, HoldsCurrent};
 ghost use Rattle.session.specs.Law.{Law};
 ghost use Rattle.session.specs.View.{view, opened, ended, asked, Did};
 
-use crate::alterations::Alterations;
 use crate::fault::*;
 use crate::room::Room;
 use crate::session::Session;
@@ -22,13 +21,13 @@ impl<'t, S: Store> Session<'t, S> {
         ensures first { Opened (view S.Store.meaning result) }
         ensures pasts { Pasts }
     {
-        let Room { steps, states } = room;
+        let Room { undo, states } = room;
         Session {
             store,
             number,
             begins: 0,
             changing: false,
-            undo: Alterations { steps },
+            undo,
             states: EvaluatedRecord::new(table, states),
         }
     }

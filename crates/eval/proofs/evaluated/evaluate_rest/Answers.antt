@@ -1,5 +1,5 @@
 use Rattle.std.proofs.Common.{◌≡◌, ℕ, ◌+◌, ◌*◌, ◌≤◌, Bool, List, length, drop, vec_len, sym, refl, ap, ap₂, ◌∙◌, subst, arith}
-use Rattle.std.proofs.lemmas.List.{take_at}
+use Rattle.std.proofs.lemmas.List.{take_at, take_rest}
 use Rattle.truth.specs.declared.Three.{Three}
 use Rattle.truth.specs.Kleene.{three}
 use Rattle.syntax.specs.declared.Node.{Node}
@@ -43,7 +43,8 @@ returns c =
     let is = take_at c.settle_all.new.values _ _ long ∙ whole in
     let width : length c.nodes-nodes.result.now ≡ length nodes = ap length c.nodes-nodes.ensures.value in
     let counted : c.count_decided.result ≡ length (take_while decided (drop (from * length nodes) (all_values three r nodes))) =
-    c.count_decided.ensures ∙ ap₂ (λ w vs. length (take_while decided (drop (from * w) vs))) width (c.as_slice.ensures.value ∙ is) in
+    c.count_decided.ensures ∙ ap (λ vs. length (take_while decided vs)) (take_rest c.deref.result.now (from * length c.nodes-nodes.result.now))
+    ∙ ap₂ (λ w vs. length (take_while decided (drop (from * w) vs))) width (c.deref.ensures.value ∙ is) in
     let rows : q * length nodes ≤ c.count_decided.result = subst (λ w. q * w ≤ c.count_decided.result) width c.whole_rows.ensures.within in
     let within : from + q ≤ n =
     settled_within n from q (length nodes) c.count_decided.result (all_values three r nodes) (length_all_values three r nodes)

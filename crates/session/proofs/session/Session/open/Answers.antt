@@ -6,7 +6,7 @@ pub returns-clause-first : goal.returns-clause-first
 returns-clause-first g c = record {
   sound = g.met.S.Store.lawful c.args.store;
   shut = refl;
-  fresh = c.args.room.no_steps;
+  fresh = c.args.room.none;
   unstamped = c.new.ensures.stamps;
   unrowed = c.new.ensures.rows;
   running = c.new.ensures.finished;
