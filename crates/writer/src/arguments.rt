@@ -1,5 +1,5 @@
 //! Puts the arguments of a node.
-ghost use Rattle.std.specs.Prelude.{map};
+ghost use Rattle.std.specs.Prelude.{map, [], ◌∷◌, pos, Some};
 ghost use Rattle.grammar.specs.Entries.{entry_of, window};
 ghost use Rattle.grammar.specs.TableText.{arg_text, spaced};
 ghost use Rattle.writer.specs.Places.{Gains};
@@ -27,32 +27,23 @@ impl Sink<'_> {
         self.put_each(&[Some(i64::from(w.low)), w.high.map(i64::from)]);
     }
 
+    /// A relation, and two numbers.
+    fn put_three(&mut self, relation: u8, first: i64, second: i64)
+        ensures { Gains self.old self.new (spaced (map arg_text (Some (pos relation) ∷ Some first ∷ Some second ∷ []))) }
+    {
+        self.put_each(&[Some(i64::from(relation)), Some(first), Some(second)]);
+    }
+
     fn put_query(&mut self, query: Query)
         ensures { Gains self.old self.new (spaced (map arg_text (entry_of (Node.Query query)).args)) }
     {
-        // Stays: `Fact` and `Number` bind other types, and of `Query::Some(r, l, h) | Query::Every(r, l, h)` the check says "a bug
-        // in rattle": an i32 that two variants bind in one arm is of type "(denote.Struct.Field.i32-field).Value" to it.
+        // Stays: of `Query::Some(r, l, h) | Query::Every(r, l, h)` the check says "a bug in rattle": an i32 that two variants
+        // bind in one arm is of type "(denote.Struct.Field.i32-field).Value" to it.
         match query {
-            Query::Some(r, l, h) => self.put_each(&[
-                Some(i64::from(r)),
-                Some(i64::from(l)),
-                Some(i64::from(h)),
-            ]),
-            Query::Every(r, l, h) => self.put_each(&[
-                Some(i64::from(r)),
-                Some(i64::from(l)),
-                Some(i64::from(h)),
-            ]),
-            Query::Fact(r, k, v) => self.put_each(&[
-                Some(i64::from(r)),
-                Some(i64::from(k)),
-                Some(i64::from(v)),
-            ]),
-            Query::Number(r, p, q) => self.put_each(&[
-                Some(i64::from(r)),
-                Some(i64::from(p)),
-                Some(i64::from(q)),
-            ]),
+            Query::Some(r, l, h) => self.put_three(r, i64::from(l), i64::from(h)),
+            Query::Every(r, l, h) => self.put_three(r, i64::from(l), i64::from(h)),
+            Query::Fact(r, k, v) => self.put_three(r, i64::from(k), i64::from(v)),
+            Query::Number(r, p, q) => self.put_three(r, i64::from(p), i64::from(q)),
             Query::Refer(r, s) | Query::Level(r, s) => self.put_each(&[
                 Some(i64::from(r)),
                 Some(i64::from(s)),
