@@ -58,7 +58,8 @@ fn record_text(heap: Global, table: &Table, text: &[u8]) -> Result<String, Alloc
 }
 
 /// What the judge writes for a rule file and a record: `(verdict N I T)` or `(verdict N I F)` for each state I and then rule N,
-/// or one line that says why not. Cost: that of reading both texts and evaluating the record once.
+/// or one line that says why not. Cost: that of reading both texts, evaluating the record once, and a line for each state
+/// and rule.
 pub fn output(heap: Global, rules: &[u8], text: &[u8]) -> Result<String, AllocError>
     ensures { IfOk result (λ s. Output rules.now text.now (string_bytes s)) }
 {
