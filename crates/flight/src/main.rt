@@ -12,12 +12,12 @@ use std::{fmt, fs, io};
 use store::{Fact, Store};
 use truth::Three;
 
-/// What became of a change: how many calls altered the store, the number of the last call that was refused, and how
-/// many alterations were undone where the change was not committed.
+/// What became of a change: how many calls altered the store, the last refusal, and how many alterations were undone where
+/// the change was not committed.
 #[derive(Clone, Copy, Default)]
 struct Outcome {
     altered: u32,
-    refused: Option<u8>,
+    refused: Option<SessionFault>,
     undone: Option<usize>,
 }
 
@@ -26,7 +26,7 @@ impl Outcome {
         match answer {
             Ok(true) => self.altered = self.altered.saturating_add(1),
             Ok(false) => {}
-            Err(fault) => self.refused = Some(fault.number()),
+            Err(fault) => self.refused = Some(fault),
         }
     }
 }
@@ -42,7 +42,7 @@ fn change<S: Store>(
     let slip = match session.begin() {
         Ok(slip) => slip,
         Err(fault) => {
-            outcome.refused = Some(fault.number());
+            outcome.refused = Some(fault);
             return outcome;
         }
     };
@@ -57,7 +57,7 @@ fn change<S: Store>(
         return outcome;
     };
     if let Err(CommitRefused { slip, fault }) = session.commit(slip, stamp) {
-        outcome.refused = Some(fault.number());
+        outcome.refused = Some(fault);
         outcome.undone = session.withdraw(slip);
     }
     outcome
@@ -67,8 +67,8 @@ impl fmt::Display for Outcome {
     fn fmt<W: fmt::Write>(&self, f: &mut fmt::Formatter<W>) -> fmt::Result {
         let altered = self.altered;
         write!(f, "{altered} altered")?;
-        if let Some(number) = self.refused {
-            write!(f, ", refused with {number}")?;
+        if let Some(fault) = self.refused {
+            write!(f, ", refused with {}", fault.number())?;
         }
         if let Some(count) = self.undone {
             write!(f, ", {count} undone")?;
