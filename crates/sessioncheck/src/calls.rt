@@ -5,12 +5,12 @@ use std::mem::replace;
 use store::{Fact, Store};
 use truth::Three;
 
-/// A call, with the slip that is held; a put and a drop by the relation, key and value of the fact.
+/// A call, with the slip that is held.
 #[derive(Clone, Copy)]
 pub enum Call {
     Begin,
-    Put(u8, u32, i32),
-    Drop(u8, u32, i32),
+    Put(Fact),
+    Drop(Fact),
     Commit(u64),
     Withdraw,
     Finish,
@@ -112,8 +112,8 @@ pub fn make<S: Store>(
 ) -> Option<Answer> {
     let answer = match call {
         Call::Begin => begin(session, held),
-        Call::Put(r, k, v) => altered(session.put(held.as_ref()?, Fact::new(r, k, v))),
-        Call::Drop(r, k, v) => altered(session.drop_fact(held.as_ref()?, Fact::new(r, k, v))),
+        Call::Put(fact) => altered(session.put(held.as_ref()?, fact)),
+        Call::Drop(fact) => altered(session.drop_fact(held.as_ref()?, fact)),
         Call::Commit(stamp) => {
             let slip = held.take()?;
             commit(session, held, slip, stamp)

@@ -9,6 +9,17 @@ use session::{Room, Session, SessionFault, Slip};
 use std::alloc::{AllocError, Global};
 use store::{Fact, Store};
 
+/// A fact by its relation, key and value, for constants, whose values may call no function.
+macro_rules! fact {
+    ($relation:expr, $key:expr, $value:expr) => {
+        Fact {
+            relation: $relation,
+            key: $key,
+            value: $value,
+        }
+    };
+}
+
 /// A call, and what it has to come to.
 #[derive(Clone, Copy)]
 struct Step(Call, Answer);
@@ -25,51 +36,51 @@ const UNALTERED: Answer = Ok(Done::Altered(false));
 
 /// After 64 alterations, facts 0 to 63 of relation 0: a 65th, and what such a change still may do.
 const CROWDED: [Step; 5] = [
-    Step(Call::Put(0, 0, 1), Err(Refused(57))),
-    Step(Call::Put(0, 0, 0), UNALTERED),
-    Step(Call::Drop(0, 0, 0), Err(Refused(57))),
-    Step(Call::Drop(0, 0, 1), UNALTERED),
+    Step(Call::Put(fact!(0, 0, 1)), Err(Refused(57))),
+    Step(Call::Put(fact!(0, 0, 0)), UNALTERED),
+    Step(Call::Drop(fact!(0, 0, 0)), Err(Refused(57))),
+    Step(Call::Drop(fact!(0, 0, 1)), UNALTERED),
     Step(Call::Withdraw, Ok(Done::Undone(Some(64)))),
 ];
 
 /// After 64 facts that fill the store: 57 where 58 fits too, then 58.
 const FULL: [Step; 6] = [
-    Step(Call::Put(0, 64, 0), Err(Refused(57))),
+    Step(Call::Put(fact!(0, 64, 0)), Err(Refused(57))),
     Step(Call::Commit(1), ACCEPTED),
     Step(Call::Begin, ACCEPTED),
-    Step(Call::Put(0, 64, 0), Err(Refused(58))),
-    Step(Call::Put(0, 63, 0), UNALTERED),
+    Step(Call::Put(fact!(0, 64, 0)), Err(Refused(58))),
+    Step(Call::Put(fact!(0, 63, 0)), UNALTERED),
     Step(Call::Withdraw, Ok(Done::Undone(Some(0)))),
 ];
 
 /// A withdraw leaves what a put had found there, and brings back what a drop had taken.
 const WITHDRAWS: [Step; 13] = [
     Step(Call::Begin, ACCEPTED),
-    Step(Call::Put(1, 1, 1), ALTERED),
+    Step(Call::Put(fact!(1, 1, 1)), ALTERED),
     Step(Call::Commit(5), ACCEPTED),
     Step(Call::Begin, ACCEPTED),
-    Step(Call::Put(1, 1, 1), UNALTERED),
-    Step(Call::Put(1, 1, 2), ALTERED),
-    Step(Call::Drop(1, 1, 2), ALTERED),
-    Step(Call::Drop(1, 1, 1), ALTERED),
+    Step(Call::Put(fact!(1, 1, 1)), UNALTERED),
+    Step(Call::Put(fact!(1, 1, 2)), ALTERED),
+    Step(Call::Drop(fact!(1, 1, 2)), ALTERED),
+    Step(Call::Drop(fact!(1, 1, 1)), ALTERED),
     Step(Call::Withdraw, Ok(Done::Undone(Some(3)))),
     Step(Call::Begin, ACCEPTED),
-    Step(Call::Drop(1, 1, 1), ALTERED),
-    Step(Call::Drop(1, 1, 2), UNALTERED),
+    Step(Call::Drop(fact!(1, 1, 1)), ALTERED),
+    Step(Call::Drop(fact!(1, 1, 2)), UNALTERED),
     Step(Call::Withdraw, Ok(Done::Undone(Some(1)))),
 ];
 
 /// Ranges of facts and stamps; the stamp before was 5.
 const RANGES: [Step; 12] = [
     Step(Call::Begin, ACCEPTED),
-    Step(Call::Put(16, 0, 0), Err(Refused(23))),
-    Step(Call::Put(0, 65_536, 0), Err(Refused(23))),
-    Step(Call::Put(0, 0, 1_000_000_001), Err(Refused(23))),
-    Step(Call::Put(0, 0, -1_000_000_001), Err(Refused(23))),
-    Step(Call::Drop(16, 0, 0), Err(Refused(23))),
-    Step(Call::Drop(0, 65_536, 0), Err(Refused(23))),
-    Step(Call::Drop(0, 0, 1_000_000_001), Err(Refused(23))),
-    Step(Call::Drop(0, 0, -1_000_000_001), Err(Refused(23))),
+    Step(Call::Put(fact!(16, 0, 0)), Err(Refused(23))),
+    Step(Call::Put(fact!(0, 65_536, 0)), Err(Refused(23))),
+    Step(Call::Put(fact!(0, 0, 1_000_000_001)), Err(Refused(23))),
+    Step(Call::Put(fact!(0, 0, -1_000_000_001)), Err(Refused(23))),
+    Step(Call::Drop(fact!(16, 0, 0)), Err(Refused(23))),
+    Step(Call::Drop(fact!(0, 65_536, 0)), Err(Refused(23))),
+    Step(Call::Drop(fact!(0, 0, 1_000_000_001)), Err(Refused(23))),
+    Step(Call::Drop(fact!(0, 0, -1_000_000_001)), Err(Refused(23))),
     Step(Call::Commit(5), Err(Refused(55))),
     Step(Call::Commit(4_000_000_001), Err(Refused(24))),
     Step(Call::Commit(4_000_000_000), ACCEPTED),
@@ -159,7 +170,7 @@ impl<S: Store> Holder<'_, '_, S> {
     fn sixty_four(&mut self) {
         self.step(Step(Call::Begin, ACCEPTED));
         for key in 0..64 {
-            self.step(Step(Call::Put(0, key, 0), ALTERED));
+            self.step(Step(Call::Put(Fact::new(0, key, 0)), ALTERED));
         }
     }
 }
@@ -217,7 +228,11 @@ fn wrong_slips<S: Store>(
     let refused = Some(Err(Refused(51)));
     let mut stray = third.begin().ok();
     let mut held = session.begin().ok();
-    for call in [Call::Put(0, 0, 0), Call::Drop(0, 0, 0), Call::Commit(1)] {
+    for call in [
+        Call::Put(Fact::new(0, 0, 0)),
+        Call::Drop(Fact::new(0, 0, 0)),
+        Call::Commit(1),
+    ] {
         tally.answer(make(session, &mut stray, call), refused);
     }
     tally.answer(give_back(session, stray), Done::Undone(None));
@@ -226,7 +241,7 @@ fn wrong_slips<S: Store>(
     tally.answer(give_back(session, twin), Done::Undone(Some(0)));
     let mut next = None;
     tally.answer(make(session, &mut next, Call::Begin), Some(ACCEPTED));
-    for call in [Call::Put(0, 0, 0), Call::Commit(1)] {
+    for call in [Call::Put(Fact::new(0, 0, 0)), Call::Commit(1)] {
         tally.answer(make(session, &mut held, call), refused);
     }
     tally.answer(give_back(session, held), Done::Undone(None));
@@ -250,12 +265,15 @@ fn not_taken<S: Store>(
     let refused = Err(Refused(31));
     let mut held = session.begin().ok();
     tally.answer(
-        make(session, &mut held, Call::Put(0, 63, 63)),
+        make(session, &mut held, Call::Put(Fact::new(0, 63, 63))),
         Some(ALTERED),
     );
-    tally.answer(make(session, &mut held, Call::Put(0, 64, 0)), Some(refused));
     tally.answer(
-        make(session, &mut held, Call::Drop(0, 64, 0)),
+        make(session, &mut held, Call::Put(Fact::new(0, 64, 0))),
+        Some(refused),
+    );
+    tally.answer(
+        make(session, &mut held, Call::Drop(Fact::new(0, 64, 0))),
         Some(UNALTERED),
     );
     tally.answer(give_back(session, held), Done::Undone(Some(1)));
@@ -263,7 +281,7 @@ fn not_taken<S: Store>(
     tally.answer(give_back(other, first), Done::Undone(Some(0)));
     let mut stray = other.begin().ok();
     tally.answer(
-        make(session, &mut stray, Call::Put(0, 64, 0)),
+        make(session, &mut stray, Call::Put(Fact::new(0, 64, 0))),
         Some(refused),
     );
     if let Some(slip) = &stray {
@@ -331,21 +349,28 @@ impl Cases<'_, '_> {
         let _ = other.close();
     }
 
+    /// The cases that every store has, each over a store of its own.
+    fn over<S: Store + Drop, F: Fn(Global) -> Result<Prepared<S>, AllocError>>(
+        &mut self,
+        heap: Global,
+        prepare: F,
+    ) -> Result<(), AllocError>
+        requires { F.IsAlwaysCallable prepare }
+    {
+        self.play(prepare(heap)?, alterations);
+        self.play(prepare(heap)?, chain);
+        self.play(prepare(heap)?, states);
+        self.play(prepare(heap)?, changes);
+        self.play(prepare(heap)?, no_state);
+        self.three_sessions(prepare(heap)?, prepare(heap)?, prepare(heap)?);
+        Ok(())
+    }
+
     /// Every case over both stores.
     fn play_all(&mut self, heap: Global) -> Result<(), AllocError> {
-        self.play(list(heap)?, alterations);
-        self.play(grid(heap)?, alterations);
-        self.play(list(heap)?, chain);
-        self.play(grid(heap)?, chain);
-        self.play(list(heap)?, states);
-        self.play(grid(heap)?, states);
-        self.play(list(heap)?, changes);
-        self.play(grid(heap)?, changes);
-        self.play(list(heap)?, no_state);
-        self.play(grid(heap)?, no_state);
+        self.over(heap, list)?;
+        self.over(heap, grid)?;
         self.play(list(heap)?, full);
-        self.three_sessions(list(heap)?, list(heap)?, list(heap)?);
-        self.three_sessions(grid(heap)?, grid(heap)?, grid(heap)?);
         self.grid_alone(grid(heap)?, grid(heap)?);
         Ok(())
     }

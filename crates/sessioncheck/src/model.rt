@@ -67,6 +67,18 @@ fn in_range(fact: Fact) -> Result<(), Refused> {
     refuse_if(fact.relation >= 16 || !IN_RANGE.has(fact), 23)
 }
 
+/// The open change: the facts at its begin, and how many alterations it has.
+#[derive(Drop)]
+struct Change {
+    kept: Vec<Fact>,
+    altered: usize,
+}
+
+/// The open change; refuses where there is none.
+fn opened(change: &mut Option<Change>) -> Result<&mut Change, Refused> {
+    change.as_mut().ok_or(Refused(51))
+}
+
 // Stays: facts and states are no pairs: a state has the answers, and no facts.
 #[derive(Drop)]
 pub struct Model {
@@ -75,9 +87,7 @@ pub struct Model {
     /// How many facts the store has room for.
     places: usize,
     facts: Vec<Fact>,
-    /// The facts at the begin of the change, while one is open.
-    kept: Option<Vec<Fact>>,
-    altered: usize,
+    change: Option<Change>,
     states: Vec<State>,
     end: End,
 }
@@ -97,15 +107,10 @@ impl Model {
             taken,
             places,
             facts: Vec::new(heap),
-            kept: None,
-            altered: 0,
+            change: None,
             states: Vec::new(heap),
             end: End::Open,
         }
-    }
-
-    fn has(&self, fact: Fact) -> bool {
-        self.facts.contains(&fact)
     }
 
     /// Refuses a fact that is out of range, or that the store does not take.
@@ -116,19 +121,14 @@ impl Model {
 
     /// Refuses while a change is open, and after finish.
     fn between_changes(&self) -> Result<(), Refused> {
-        refuse_if(self.kept.is_some(), 52)?;
+        refuse_if(self.change.is_some(), 52)?;
         refuse_if(self.end == End::Finished, 53)
-    }
-
-    /// Refuses while no change is open.
-    fn in_change(&self) -> Result<(), Refused> {
-        refuse_if(self.kept.is_none(), 51)
     }
 
     fn begin(&mut self) -> Result<Done, ModelError> {
         self.between_changes()?;
-        self.kept = Some(Vec::from_slice(self.heap, self.facts.as_slice())?);
-        self.altered = 0;
+        let kept = Vec::from_slice(self.heap, self.facts.as_slice())?;
+        self.change = Some(Change { kept, altered: 0 });
         Ok(Done::Accepted)
     }
 
@@ -136,8 +136,8 @@ impl Model {
     // Stays: a call is data, given to the session and the model.
     pub fn astray(&self, call: Call) -> Option<Answer> {
         let taken = match call {
-            Call::Put(r, k, v) => self.takes(Fact::new(r, k, v)),
-            Call::Drop(r, k, v) => in_range(Fact::new(r, k, v)),
+            Call::Put(fact) => self.takes(fact),
+            Call::Drop(fact) => in_range(fact),
             _ => return None,
         };
         Some(taken.and(Err(Refused(51))))
@@ -145,45 +145,45 @@ impl Model {
 
     fn put(&mut self, fact: Fact) -> Result<Done, ModelError> {
         self.takes(fact)?;
-        self.in_change()?;
-        if self.has(fact) {
+        let change = opened(&mut self.change)?;
+        if self.facts.contains(&fact) {
             return Ok(Done::Altered(false));
         }
-        refuse_if(self.altered >= 64, 57)?;
+        refuse_if(change.altered >= 64, 57)?;
         refuse_if(self.facts.len() >= self.places, 58)?;
         self.facts.push(fact)?;
-        self.altered = self.altered.saturating_add(1);
+        change.altered = change.altered.saturating_add(1);
         Ok(Done::Altered(true))
     }
 
     fn drop_fact(&mut self, fact: Fact) -> Answer {
         in_range(fact)?;
-        self.in_change()?;
-        if !self.has(fact) {
+        let change = opened(&mut self.change)?;
+        if !self.facts.contains(&fact) {
             return Ok(Done::Altered(false));
         }
-        refuse_if(self.altered >= 64, 57)?;
+        refuse_if(change.altered >= 64, 57)?;
         self.facts.retain(|other| *other != fact);
-        self.altered = self.altered.saturating_add(1);
+        change.altered = change.altered.saturating_add(1);
         Ok(Done::Altered(true))
     }
 
     fn commit(&mut self, stamp: u64) -> Result<Done, ModelError> {
         refuse_if(stamp > 4_000_000_000, 24)?;
-        self.in_change()?;
+        opened(&mut self.change)?;
         refuse_if(self.last_stamp().is_some_and(|last| stamp <= last), 55)?;
         let answers = self.answers();
         self.states.push(State { stamp, answers })?;
-        self.kept = None;
+        self.change = None;
         Ok(Done::Accepted)
     }
 
     fn withdraw(&mut self) -> Done {
-        let Some(facts) = self.kept.take() else {
+        let Some(Change { kept, altered }) = self.change.take() else {
             return Done::Undone(None);
         };
-        self.facts = facts;
-        Done::Undone(Some(self.altered))
+        self.facts = kept;
+        Done::Undone(Some(altered))
     }
 
     fn finish(&mut self) -> Answer {
@@ -197,8 +197,8 @@ impl Model {
     fn done(&mut self, call: Call) -> Result<Done, ModelError> {
         Ok(match call {
             Call::Begin => self.begin()?,
-            Call::Put(r, k, v) => self.put(Fact::new(r, k, v))?,
-            Call::Drop(r, k, v) => self.drop_fact(Fact::new(r, k, v))?,
+            Call::Put(fact) => self.put(fact)?,
+            Call::Drop(fact) => self.drop_fact(fact)?,
             Call::Commit(stamp) => self.commit(stamp)?,
             Call::Withdraw => self.withdraw(),
             Call::Finish => self.finish()?,
@@ -251,7 +251,7 @@ impl Model {
             self.count(0, 0..=4) == all,
             self.count(1, i32::MIN..=i32::MAX) <= 2,
             self.refers(),
-            self.has(Fact::new(2, 1, 3)),
+            self.facts.contains(&Fact::new(2, 1, 3)),
             self.is_level(),
         ]
     }

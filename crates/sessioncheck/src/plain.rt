@@ -46,13 +46,13 @@ pub enum Formula {
     And(usize, usize),
     Or(usize, usize),
     Next(Window, usize),
-    Sometime(Window, usize),
     Until(Window, usize, usize),
     Previous(Window, usize),
     Since(Window, usize, usize),
 }
 
-/// The six queries are formulas 0 to 5; each comment names the formula below it.
+/// The six queries are formulas 0 to 5; each comment names the formula below it. A sometime is an until of `true`, and a
+/// once a since of it.
 const FORMULAS: [Formula; 31] = [
     Formula::Leaf(0),
     Formula::Leaf(1),
@@ -63,12 +63,12 @@ const FORMULAS: [Formula; 31] = [
     // 6: true
     Formula::Yes,
     // 7 to 9: rule 1, an implication
-    Formula::Sometime(Window(0, Some(7)), 1),
+    Formula::Until(Window(0, Some(7)), 6, 1),
     Formula::Not(0),
     Formula::Or(8, 7),
     // 10 to 12: rule 2, an always
     Formula::Not(2),
-    Formula::Sometime(Window(0, Some(10)), 10),
+    Formula::Until(Window(0, Some(10)), 6, 10),
     Formula::Not(11),
     // 13: rule 3
     Formula::Until(Window(0, Some(8)), 3, 4),
@@ -89,12 +89,12 @@ const FORMULAS: [Formula; 31] = [
     // 24 to 29: rule 8
     Formula::Previous(Window(0, Some(3)), 3),
     Formula::Not(5),
-    Formula::Sometime(Window(0, None), 25),
+    Formula::Until(Window(0, None), 6, 25),
     Formula::Not(26),
     Formula::Not(27),
     Formula::Or(24, 28),
     // 30: rule 9
-    Formula::Sometime(Window(1, None), 6),
+    Formula::Until(Window(1, None), 6, 6),
 ];
 
 /// The formula of each rule, from rule 1 on.
@@ -154,12 +154,6 @@ impl Outlook<'_> {
             End::Open if high.is_none_or(|high| passed < high) => Value::Undecided,
             _ => Value::False,
         }
-    }
-
-    fn sometime(self, f: usize) -> Value {
-        (self.state..self.before.count())
-            .filter(|j| self.is_within(self.state, *j))
-            .fold(self.open_mark(), |value, j| value.max(self.before.at(f, j)))
     }
 
     fn until(self, f: usize, g: usize) -> Value {
@@ -247,7 +241,6 @@ impl<'a> Before<'a> {
             Formula::And(f, g) => self.at(f, i).min(self.at(g, i)),
             Formula::Or(f, g) => self.at(f, i).max(self.at(g, i)),
             Formula::Next(window, f) => self.outlook(i, window).next(f),
-            Formula::Sometime(window, f) => self.outlook(i, window).sometime(f),
             Formula::Until(window, f, g) => self.outlook(i, window).until(f, g),
             Formula::Previous(window, f) => self.outlook(i, window).previous(f),
             Formula::Since(window, f, g) => self.outlook(i, window).since(f, g),

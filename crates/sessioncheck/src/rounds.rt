@@ -101,11 +101,11 @@ impl<S: Store> Round<'_, '_, S> {
             0..=2 => self.call(Call::Begin)?,
             3..=11 => {
                 let fact = some_fact(self.generator);
-                self.alter(Call::Put(fact.relation, fact.key, fact.value))?;
+                self.alter(Call::Put(fact))?;
             }
             12..=14 => {
                 let fact = some_fact(self.generator);
-                self.alter(Call::Drop(fact.relation, fact.key, fact.value))?;
+                self.alter(Call::Drop(fact))?;
             }
             15..=18 => self.commit()?,
             _ => self.call(Call::Withdraw)?,
