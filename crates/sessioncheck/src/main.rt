@@ -10,8 +10,10 @@ mod rounds;
 mod tally;
 
 use anyhow::{bail, ensure};
+use calls::Refused;
 use cases::both_stores;
-use rounds::random_rounds;
+use plain::Value;
+use rounds::{limit_rounds, random_rounds};
 use rules::table::Table;
 use tally::Tally;
 
@@ -27,6 +29,15 @@ const RULES: &[u8] = b"(rule 1 (implies (some 0 5 9) (sometime 0 7 (every 0 0 4)
 (rule 9 (sometime 1 end (true)))
 ";
 
+/// How many differences are counted of three that are made: a comparison that always held would show only here.
+fn counted_differences() -> u64 {
+    let mut tally = Tally::default();
+    tally.answer(0, 1);
+    tally.verdict(Ok(Value::False), Some(Value::True));
+    tally.verdict(Err(Refused(59)), Some(Value::True));
+    tally.wrong
+}
+
 fn run(rt: &HostRuntime) -> anyhow::Result<()> {
     let Ok(table) = Table::new(rt.alloc())?.read(RULES) else {
         bail!("the rules are faulty");
@@ -34,6 +45,9 @@ fn run(rt: &HostRuntime) -> anyhow::Result<()> {
     let mut tally = Tally::default();
     both_stores(rt, &table, &mut tally)?;
     random_rounds(rt, &table, &mut tally)?;
+    limit_rounds(rt, &table, &mut tally)?;
+    let counted = counted_differences();
+    println!(rt; "differences made: 3, counted: {counted}")?;
     let wrong = tally.wrong;
     println!(rt; "wrong: {wrong}")?;
     ensure!(wrong == 0, "the two sessions differ");

@@ -11,6 +11,28 @@ use session::{Room, Session, Slip};
 use std::alloc::{AllocError, Global};
 use store::{Fact, Store};
 
+/// After 64 alterations, the facts of key 63 in relation 1: the ends of facts and of stamps, from both sides.
+const LIMITS: [Call; 18] = [
+    Call::Put(1, 62, 0),
+    Call::Put(1, 63, 63),
+    Call::Put(1, 63, 64),
+    Call::Put(1, 63, -1),
+    Call::Drop(1, 63, 0),
+    Call::Commit(4_000_000_001),
+    Call::Commit(3_999_999_999),
+    Call::Begin,
+    Call::Put(0, 0, 9),
+    Call::Put(15, 65_535, 1_000_000_000),
+    Call::Put(15, 0, -1_000_000_000),
+    Call::Put(15, 65_536, 0),
+    Call::Put(15, 0, 1_000_000_001),
+    Call::Put(15, 0, -1_000_000_001),
+    Call::Put(16, 0, 0),
+    Call::Put(0, 63, 64),
+    Call::Commit(4_000_000_000),
+    Call::Finish,
+];
+
 /// A fact of few relations, keys and values, now and then one that is out of range or that the grid does not take.
 fn some_fact(generator: &mut Generator) -> Fact {
     let fact = Fact {
@@ -123,17 +145,32 @@ impl<S: Store> Round<'_, '_, S> {
         }
         self.verdicts()
     }
+
+    /// A change of 64 alterations, and the calls at the limits.
+    fn limits(&mut self) -> Result<(), AllocError> {
+        self.call(Call::Begin)?;
+        for value in 0..64 {
+            self.call(Call::Put(1, 63, value))?;
+        }
+        for call in LIMITS {
+            self.call(call)?;
+        }
+        self.verdicts()
+    }
 }
 
 /// A round in a session over the first store, with the slip of a session over the second.
-fn one_round<S: Store + Drop>(
+fn one_round<S: Store + Drop, F: FnOnce(&mut Round<'_, '_, S>) -> Result<(), AllocError>>(
     heap: Global,
     table: &Table,
     stores: (S, S),
     model: Model,
     generator: &mut Generator,
     tally: &mut Tally,
-) -> Result<(), AllocError> {
+    play: F,
+) -> Result<(), AllocError>
+    requires { F.IsAlwaysCallable play }
+{
     let room = Room::new(heap)?;
     let other_room = Room::new(heap)?;
     let (store, other_store) = stores;
@@ -148,7 +185,7 @@ fn one_round<S: Store + Drop>(
         generator,
         tally,
     };
-    let played = round.play();
+    let played = play(&mut round);
     let Round {
         heap: _,
         session,
@@ -173,14 +210,62 @@ pub fn random_rounds(rt: &HostRuntime, table: &Table, tally: &mut Tally) -> anyh
     for _ in 0..40 {
         let lists = (ListStore::new(heap, 9)?, ListStore::new(heap, 9)?);
         let model = Model::of_list(heap, 9);
-        one_round(heap, table, lists, model, &mut generator, tally)?;
+        one_round(
+            heap,
+            table,
+            lists,
+            model,
+            &mut generator,
+            tally,
+            |round| round.play(),
+        )?;
         let grids = (GridStore::new(), GridStore::new());
         let model = Model::of_grid(heap);
-        one_round(heap, table, grids, model, &mut generator, tally)?;
+        one_round(
+            heap,
+            table,
+            grids,
+            model,
+            &mut generator,
+            tally,
+            |round| round.play(),
+        )?;
     }
     let answers = tally.answers.wrapping_sub(before);
     let (falses, open, trues) = (tally.falses, tally.open, tally.trues);
     println!(rt; "random calls over both stores: {answers} answers compared")?;
     println!(rt; "verdicts compared: {trues} true, {falses} false, {open} undecided")?;
+    Ok(())
+}
+
+/// The limits over both stores: what `cases` has against constants, here the model says too.
+pub fn limit_rounds(rt: &HostRuntime, table: &Table, tally: &mut Tally) -> anyhow::Result<()> {
+    let heap = rt.alloc();
+    let mut generator = Generator::new(0);
+    let before = tally.answers;
+    let lists = (ListStore::new(heap, 70)?, ListStore::new(heap, 70)?);
+    let model = Model::of_list(heap, 70);
+    one_round(
+        heap,
+        table,
+        lists,
+        model,
+        &mut generator,
+        tally,
+        |round| round.limits(),
+    )?;
+    let grids = (GridStore::new(), GridStore::new());
+    let model = Model::of_grid(heap);
+    one_round(
+        heap,
+        table,
+        grids,
+        model,
+        &mut generator,
+        tally,
+        |round| round.limits(),
+    )?;
+    let answers = tally.answers.wrapping_sub(before);
+    println!(rt; "limits by both sessions: {answers} answers compared")?;
     Ok(())
 }
