@@ -8,6 +8,7 @@ use anyhow::ensure;
 use gridstore::GridStore;
 use liststore::ListStore;
 use random::Generator;
+use std::alloc::{AllocError, Global};
 use store::Store;
 
 const STEPS: u32 = 20_000;
@@ -115,6 +116,32 @@ fn both(rt: &HostRuntime) -> anyhow::Result<()> {
     Ok(())
 }
 
+/// Whether a store with one place less than the model is told apart.
+fn alone_told_apart(rt: &HostRuntime) -> Result<bool, AllocError> {
+    let mut list = ListStore::new(rt.alloc(), 65_535)?;
+    let mut model = Model::of_list(rt.alloc(), 65_536);
+    Ok(alone(rt, "list of 65535", &mut list, &mut model, 16).is_err())
+}
+
+/// Whether two stores are told apart from a model with 65,536 places.
+fn two_told_apart(heap: Global, first: usize, second: usize) -> Result<bool, AllocError> {
+    let mut first = ListStore::new(heap, first)?;
+    let mut second = ListStore::new(heap, second)?;
+    let mut model = Model::of_list(heap, 65_536);
+    Ok(side_by_side(&mut first, &mut second, &mut model).is_err())
+}
+
+/// Holds stores to a model that differs from them in the room alone: a comparison that always held would show only here.
+fn other_room(rt: &HostRuntime) -> anyhow::Result<()> {
+    let alone = alone_told_apart(rt)?;
+    let first = two_told_apart(rt.alloc(), 65_535, 65_536)?;
+    let second = two_told_apart(rt.alloc(), 65_536, 65_535)?;
+    println!(rt;
+        "another room told apart: alone {alone}, as the first {first}, as the second {second}"
+    )?;
+    Ok(())
+}
+
 pub fn run_all(rt: &HostRuntime) -> anyhow::Result<()> {
     list_alone(rt, 0, 18)?;
     list_alone(rt, 1, 2)?;
@@ -124,5 +151,6 @@ pub fn run_all(rt: &HostRuntime) -> anyhow::Result<()> {
     let mut grid_model = Model::of_grid(rt.alloc());
     alone(rt, "grid", &mut GridStore::new(), &mut grid_model, 18)?;
     both(rt)?;
-    full::run(rt)
+    full::run(rt)?;
+    other_room(rt)
 }
