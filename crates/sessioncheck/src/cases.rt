@@ -9,17 +9,6 @@ use session::{Room, Session, SessionFault, Slip};
 use std::alloc::{AllocError, Global};
 use store::{Fact, Store};
 
-/// A fact by its relation, key and value, for constants, whose values may call no function.
-macro_rules! fact {
-    ($relation:expr, $key:expr, $value:expr) => {
-        Fact {
-            relation: $relation,
-            key: $key,
-            value: $value,
-        }
-    };
-}
-
 /// A call, and what it has to come to.
 #[derive(Clone, Copy)]
 struct Step(Call, Answer);

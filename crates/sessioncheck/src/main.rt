@@ -2,6 +2,17 @@
 //! what was compared.
 #![tactic(auto)]
 
+/// A fact by its relation, key and value, for constants, whose values may call no function.
+macro_rules! fact {
+    ($relation:expr, $key:expr, $value:expr) => {
+        Fact {
+            relation: $relation,
+            key: $key,
+            value: $value,
+        }
+    };
+}
+
 mod calls;
 mod cases;
 mod model;

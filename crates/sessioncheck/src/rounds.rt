@@ -13,22 +13,22 @@ use store::{Fact, Store};
 
 /// After 64 alterations, the facts of key 63 in relation 1: the ends of facts and of stamps, from both sides.
 const LIMITS: [Call; 18] = [
-    Call::Put(1, 62, 0),
-    Call::Put(1, 63, 63),
-    Call::Put(1, 63, 64),
-    Call::Put(1, 63, -1),
-    Call::Drop(1, 63, 0),
+    Call::Put(fact!(1, 62, 0)),
+    Call::Put(fact!(1, 63, 63)),
+    Call::Put(fact!(1, 63, 64)),
+    Call::Put(fact!(1, 63, -1)),
+    Call::Drop(fact!(1, 63, 0)),
     Call::Commit(4_000_000_001),
     Call::Commit(3_999_999_999),
     Call::Begin,
-    Call::Put(0, 0, 9),
-    Call::Put(15, 65_535, 1_000_000_000),
-    Call::Put(15, 0, -1_000_000_000),
-    Call::Put(15, 65_536, 0),
-    Call::Put(15, 0, 1_000_000_001),
-    Call::Put(15, 0, -1_000_000_001),
-    Call::Put(16, 0, 0),
-    Call::Put(0, 63, 64),
+    Call::Put(fact!(0, 0, 9)),
+    Call::Put(fact!(15, 65_535, 1_000_000_000)),
+    Call::Put(fact!(15, 0, -1_000_000_000)),
+    Call::Put(fact!(15, 65_536, 0)),
+    Call::Put(fact!(15, 0, 1_000_000_001)),
+    Call::Put(fact!(15, 0, -1_000_000_001)),
+    Call::Put(fact!(16, 0, 0)),
+    Call::Put(fact!(0, 63, 64)),
     Call::Commit(4_000_000_000),
     Call::Finish,
 ];
@@ -150,7 +150,7 @@ impl<S: Store> Round<'_, '_, S> {
     fn limits(&mut self) -> Result<(), AllocError> {
         self.call(Call::Begin)?;
         for value in 0..64 {
-            self.call(Call::Put(1, 63, value))?;
+            self.call(Call::Put(Fact::new(1, 63, value)))?;
         }
         for call in LIMITS {
             self.call(call)?;
