@@ -1,52 +1,30 @@
 //! Bytes written in printable text.
 use std::alloc::{AllocError, Global};
 
-#[derive(Clone, Copy)]
-enum Place {
-    Plain,
-    Escape,
-    High,
-    Low(u8),
-}
-
-fn digit(b: u8) -> u8 {
-    match b {
-        b'0'..=b'9' => b - b'0',
-        b'a'..=b'f' => b - b'a' + 10,
-        _ => 0,
+/// The byte that an escape stands for, from after its backslash, and the text that follows it.
+fn parse_escape(text: &str) -> Option<(u8, &str)> {
+    if let Some(rest) = text.strip_prefix('n') {
+        return Some((b'\n', rest));
     }
+    let (digits, rest) = text.strip_prefix('x')?.split_at_checked(2)?;
+    let byte = u8::from_str_radix(digits, 16).ok()?;
+    Some((byte, rest))
 }
 
-fn step(out: &mut Vec<u8>, place: Place, b: u8) -> Result<Place, AllocError> {
-    match place {
-        Place::Plain => {
-            if b == b'\\' {
-                return Ok(Place::Escape);
-            }
-            out.push(b)?;
-            Ok(Place::Plain)
-        }
-        Place::Escape => {
-            if b == b'x' {
-                return Ok(Place::High);
-            }
-            out.push(b'\n')?;
-            Ok(Place::Plain)
-        }
-        Place::High => Ok(Place::Low(digit(b))),
-        Place::Low(high) => {
-            out.push((high & 15) << 4 | digit(b))?;
-            Ok(Place::Plain)
-        }
-    }
-}
-
-/// The bytes that a text stands for: `\n` is a newline, `\x0d` the byte 13, and every other byte itself.
-pub fn unescape(heap: Global, text: &str) -> Result<Vec<u8>, AllocError> {
+/// The bytes that a text stands for: `\n` is a newline, `\x0d` the byte 13, and every other byte itself; none if a
+/// backslash begins something else.
+pub fn unescape(heap: Global, text: &str) -> Result<Option<Vec<u8>>, AllocError> {
     let mut out = Vec::new(heap);
-    let mut place = Place::Plain;
-    for b in text.bytes() {
-        place = step(&mut out, place, b)?;
+    let mut pieces = text.split('\\');
+    if let Some(plain) = pieces.next() {
+        out.extend_from_slice(plain.as_bytes())?;
     }
-    Ok(out)
+    for piece in pieces {
+        let Some((byte, rest)) = parse_escape(piece) else {
+            return Ok(None);
+        };
+        out.push(byte)?;
+        out.extend_from_slice(rest.as_bytes())?;
+    }
+    Ok(Some(out))
 }

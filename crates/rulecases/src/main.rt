@@ -18,7 +18,9 @@ use std::io::Write;
 
 /// Whether the case came out as expected.
 fn try_case(rt: &HostRuntime, heap: Global, case: Case) -> anyhow::Result<bool> {
-    let text = unescape(heap, case.text)?;
+    let Some(text) = unescape(heap, case.text)? else {
+        bail!("a text with an unknown escape");
+    };
     let came = outcome(heap, text.as_slice())?;
     let same = came.as_str() == case.expected;
     let name = case.name;

@@ -13,7 +13,7 @@ pub fn outcome(heap: Global, text: &[u8]) -> Result<String, AllocError> {
 
 /// Writes an accepted file's table into buffers of its length, one byte more and one byte less.
 fn written(heap: Global, table: &Table, text: &[u8]) -> Result<&'static str, AllocError> {
-    // Stays: each text stands once, where it is found, and is only printed; an enum would name each thrice.
+    // Stays: each text stands once, where it is found, to be held against a case's text; an enum would name each thrice.
     let mut exact = vec![in heap; 7u8; text.len()]?;
     if write(table, exact.as_mut_slice()) != Ok(text.len()) || exact.as_slice() != text {
         return Ok("another text");
