@@ -1,7 +1,7 @@
 //! One random table on one random record, by both evaluators.
 use crate::chance::Random;
 use crate::facts::Facts;
-use crate::second::{Columns, States, Value};
+use crate::second::{Columns, End, States, Value};
 use crate::tally::{Mode, Tally};
 use crate::tree::Tree;
 use anyhow::bail;
@@ -82,10 +82,10 @@ pub struct Case<'a> {
 
 impl<'a> Case<'a> {
     /// The columns of every formula by the second evaluator.
-    fn by_trees(self, open: Value) -> Result<Expected<'a>, AllocError> {
+    fn by_trees(self, end: End) -> Result<Expected<'a>, AllocError> {
         let states = States {
             record: self.record,
-            open,
+            end,
         };
         let mut columns = Columns::new(self.heap, states);
         let mut roots = Vec::new(self.heap);
@@ -155,8 +155,8 @@ impl<'a> Case<'a> {
 
     /// The record: plain, running and finished.
     pub fn compare_record(self, tally: &mut Tally) -> anyhow::Result<()> {
-        let closed = self.by_trees(Value::No)?;
-        let open = self.by_trees(Value::Open)?;
+        let closed = self.by_trees(End::Finished)?;
+        let open = self.by_trees(End::Open)?;
         tally.note(
             self.rules.len(),
             closed.columns.as_slice().len(),

@@ -1,6 +1,6 @@
 //! The six queries by plain chains over a list of facts.
 use crate::chance::Random;
-use crate::tree::{Form, Tree};
+use crate::tree::{Form, Leaf, Tree};
 use gridstore::GridStore;
 use liststore::ListStore;
 use std::alloc::AllocError;
@@ -67,11 +67,11 @@ impl Facts {
     }
 
     /// The answer of a query; `(true)` is no query and answers no.
-    fn answer(&self, form: Form, numbers: [i64; 3]) -> Result<bool, AllocError> {
-        let [a, b, c] = numbers;
+    fn answer(&self, leaf: Leaf) -> Result<bool, AllocError> {
+        let [a, b, c] = leaf.numbers;
         let facts = self.of(a)?;
         let others = self.of(b)?;
-        Ok(match form {
+        Ok(match leaf.form {
             Form::Some => facts.iter().any(|fact| (b..=c).contains(&fact.value)),
             Form::Every => facts.iter().all(|fact| (b..=c).contains(&fact.value)),
             Form::Fact => facts.contains(&Entry {
@@ -96,7 +96,7 @@ impl Facts {
     /// The answers of the formulas of a tree as their brackets close, added to those before.
     pub fn add_answers(&self, tree: &Tree, answers: &mut Vec<bool>) -> Result<(), AllocError> {
         match tree {
-            Tree::Leaf(form, numbers) => answers.push(self.answer(*form, *numbers)?)?,
+            Tree::Leaf(leaf) => answers.push(self.answer(*leaf)?)?,
             Tree::One(_, operand) => {
                 self.add_answers(operand, answers)?;
                 answers.push(false)?;

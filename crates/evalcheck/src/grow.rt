@@ -2,7 +2,7 @@
 ghost use Rattle.std.specs.Prelude.{◌<◌};
 
 use crate::chance::Random;
-use crate::tree::{Bounds, Form, Operator, Tree};
+use crate::tree::{Bounds, Form, Leaf, Operator, Tree};
 use recordtext::state::RecordText;
 use std::alloc::AllocError;
 
@@ -71,13 +71,14 @@ impl Random {
         }
     }
 
-    fn leaf(&mut self) -> Tree {
+    fn leaf(&mut self) -> Leaf {
         let form = if self.one_in(8) {
             Form::True
         } else {
             self.one_of(QUERIES)
         };
-        Tree::Leaf(form, self.numbers(form))
+        let numbers = self.numbers(form);
+        Leaf { form, numbers }
     }
 
     /// An operator of one of the forms; a window is drawn for each, and kept where the form has one.
@@ -95,7 +96,7 @@ impl Random {
     /// A formula of at most `size` formulas and `levels` levels.
     pub fn tree(&mut self, size: u32, levels: u32) -> Result<Tree, AllocError> {
         if size <= 1 || levels <= 1 {
-            return Ok(self.leaf());
+            return Ok(Tree::Leaf(self.leaf()));
         }
         let rest = size - 1;
         if rest == 1 || self.one_in(3) {

@@ -50,19 +50,16 @@ fn run_one(random: &mut Random, tally: &mut Tally) -> anyhow::Result<()> {
 }
 
 /// How deep formulas lie in each other: the most brackets open at a time, but for the rule's own.
-// Stays: a fold would carry the open brackets and the most of them in a pair.
 fn levels(text: &[u8]) -> usize {
-    let mut open: usize = 0;
-    let mut most: usize = 0;
-    for byte in text {
-        match *byte {
-            b'(' => open = open.saturating_add(1),
-            b')' => open = open.saturating_sub(1),
-            _ => {}
-        }
-        most = most.max(open);
-    }
-    most.saturating_sub(1)
+    let open = text.iter().scan(0usize, |open, byte| {
+        *open = match *byte {
+            b'(' => open.saturating_add(1),
+            b')' => open.saturating_sub(1),
+            _ => *open,
+        };
+        Some(*open)
+    });
+    open.max().unwrap_or(0).saturating_sub(1)
 }
 
 fn run(rt: &HostRuntime) -> anyhow::Result<()> {

@@ -43,11 +43,18 @@ impl From<Three> for Value {
     }
 }
 
-/// What the formulas look at: the record, and what an open mark is.
+/// Whether states may still follow the last one.
+#[derive(Clone, Copy, PartialEq, Eq, Debug)]
+pub enum End {
+    Open,
+    Finished,
+}
+
+/// What the formulas look at: the record, and how it ends.
 #[derive(Clone, Copy)]
 pub struct States<'a> {
     pub record: &'a RecordText,
-    pub open: Value,
+    pub end: End,
 }
 
 fn at(column: &[Value], state: usize) -> Value {
@@ -83,14 +90,15 @@ impl Outlook<'_> {
         self.window.contain(distance)
     }
 
+    /// What the states that may still come leave open of a window ahead.
     fn mark(self) -> Value {
         let passed = self
             .states
             .last_stamp()
             .saturating_sub(self.states.stamp(self.state));
-        match self.window.high {
-            Some(high) if passed >= high => Value::No,
-            _ => self.states.open,
+        match self.states.end {
+            End::Open if self.window.high.is_none_or(|high| passed < high) => Value::Open,
+            _ => Value::No,
         }
     }
 
@@ -118,24 +126,22 @@ impl Outlook<'_> {
     }
 
     /// The greatest value from the state on within the window, and what the record leaves open.
-    // Stays: with `map(value)` and `map(&value)` the check did not prove `fold-requires-clause-can`.
-    fn ahead<F: Fn(usize) -> Value>(self, open: Value, value: F) -> Value
-        requires { F.IsAlwaysCallable value }
+    fn ahead<F: FnMut(usize) -> Value>(self, open: Value, value: F) -> Value
+        requires { (state : F) (j : _) → F.pre state j }
     {
         (self.state..self.states.count())
             .filter(|j| self.within(self.state, *j))
-            .map(|j| value(j))
+            .map(value)
             .fold(open, Value::max)
     }
 
     /// The greatest value up to the state within the window.
-    // Stays: with `map(value)` and `map(&value)` the check did not prove `max-requires-clause-can`.
-    fn back<F: Fn(usize) -> Value>(self, value: F) -> Value
-        requires { F.IsAlwaysCallable value }
+    fn back<F: FnMut(usize) -> Value>(self, value: F) -> Value
+        requires { (state : F) (j : _) → F.pre state j }
     {
         (0..=self.state)
             .filter(|j| self.within(*j, self.state))
-            .map(|j| value(j))
+            .map(value)
             .max()
             .unwrap_or(Value::No)
     }
@@ -217,11 +223,14 @@ impl<'a> States<'a> {
     }
 
     /// The value of every state.
-    // Stays: with `map(value)` and `map(&value)` the check did not prove `collect-requires-clause-can`.
-    fn column<F: Fn(usize) -> Value>(self, heap: Global, value: F) -> Result<Vec<Value>, AllocError>
-        requires { F.IsAlwaysCallable value }
+    fn column<F: FnMut(usize) -> Value>(
+        self,
+        heap: Global,
+        value: F,
+    ) -> Result<Vec<Value>, AllocError>
+        requires { (state : F) (i : _) → F.pre state i }
     {
-        (0..self.count()).map(|i| value(i)).collect(heap)
+        (0..self.count()).map(value).collect(heap)
     }
 }
 
@@ -300,7 +309,7 @@ impl<'a> Columns<'a> {
     pub fn add_tree(&mut self, tree: &Tree) -> Result<usize, AllocError> {
         let states = self.states;
         match tree {
-            Tree::Leaf(form, _) => self.add_leaf(*form),
+            Tree::Leaf(leaf) => self.add_leaf(leaf.form),
             Tree::One(operator, operand) => {
                 let f = self.add_tree(operand)?;
                 let f = self.values(f);

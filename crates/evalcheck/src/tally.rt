@@ -45,6 +45,13 @@ impl Verdicts {
     }
 }
 
+impl fmt::Display for Verdicts {
+    fn fmt<W: fmt::Write>(&self, f: &mut fmt::Formatter<W>) -> fmt::Result {
+        let Verdicts { yes, no, open } = self;
+        write!(f, "true {yes}, false {no}, undecided {open}")
+    }
+}
+
 #[derive(Default, Drop)]
 pub struct Tally {
     tables: Count,
@@ -131,19 +138,12 @@ impl Tally {
             println!(rt; "values of {form}: {count}")?;
         }
         println!(rt; "plain: true {}, false {}", self.plain.yes, self.plain.no)?;
-        print_verdicts(rt, "running", self.running)?;
-        print_verdicts(rt, "finished", self.finished)?;
+        println!(rt; "running: {}", self.running)?;
+        println!(rt; "finished: {}", self.finished)?;
         println!(rt;
             "rows of answers: {}; bits set {}, bits clear {}",
             self.rows, self.answers.yes, self.answers.no
         )?;
         println!(rt; "differences {}", self.differences)
     }
-}
-
-fn print_verdicts(rt: &impl Print, name: &str, verdicts: Verdicts) -> io::Result<()> {
-    println!(rt;
-        "{name}: true {}, false {}, undecided {}",
-        verdicts.yes, verdicts.no, verdicts.open
-    )
 }

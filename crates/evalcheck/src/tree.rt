@@ -137,30 +137,35 @@ impl fmt::Display for Operator {
     }
 }
 
-#[derive(Drop)]
-pub enum Tree {
-    /// `(true)` or a query, with the numbers of its items.
-    Leaf(Form, [i64; 3]),
-    One(Operator, Box<Tree>),
-    Two(Operator, Box<Tree>, Box<Tree>),
+/// `(true)` or a query, with the numbers of its items.
+#[derive(Clone, Copy, PartialEq, Eq, Debug)]
+pub struct Leaf {
+    pub form: Form,
+    pub numbers: [i64; 3],
 }
 
-fn write_leaf<W: fmt::Write>(
-    f: &mut fmt::Formatter<W>,
-    form: Form,
-    numbers: &[i64; 3],
-) -> fmt::Result {
-    write!(f, "({form}")?;
-    for number in numbers.iter().take(form.item_count()) {
-        write!(f, " {number}")?;
+impl fmt::Display for Leaf {
+    fn fmt<W: fmt::Write>(&self, f: &mut fmt::Formatter<W>) -> fmt::Result {
+        let form = self.form;
+        write!(f, "{form}")?;
+        for number in self.numbers.iter().take(form.item_count()) {
+            write!(f, " {number}")?;
+        }
+        Ok(())
     }
-    write!(f, ")")
+}
+
+#[derive(Drop)]
+pub enum Tree {
+    Leaf(Leaf),
+    One(Operator, Box<Tree>),
+    Two(Operator, Box<Tree>, Box<Tree>),
 }
 
 impl fmt::Display for Tree {
     fn fmt<W: fmt::Write>(&self, f: &mut fmt::Formatter<W>) -> fmt::Result {
         match self {
-            Tree::Leaf(form, numbers) => write_leaf(f, *form, numbers),
+            Tree::Leaf(leaf) => write!(f, "({leaf})"),
             Tree::One(operator, operand) => write!(f, "({operator} {operand})"),
             Tree::Two(operator, first, second) => write!(f, "({operator} {first} {second})"),
         }
