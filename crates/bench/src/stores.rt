@@ -18,19 +18,19 @@ pub fn random_fact(generator: &mut Generator, keys: usize, values: usize) -> Fac
 }
 
 /// Two puts for each drop, of random facts with keys and values below the bounds.
-// Stays: each step changes the store, which a chain would do in the test of a filter.
 pub fn puts_and_drops<S: Store>(store: &mut S, steps: u32, keys: usize, values: usize) -> Work {
     let mut generator = Generator::new(1);
-    let mut changes: u32 = 0;
-    for _ in 0..steps {
-        let fact = random_fact(&mut generator, keys, values);
-        let changed = if generator.below(3) == 0 {
-            store.drop_fact(fact)
-        } else {
-            store.put(fact).unwrap_or(false)
-        };
-        changes = changes.wrapping_add(u32::from(changed));
-    }
+    let changes = (0..steps)
+        .map(|_| {
+            let fact = random_fact(&mut generator, keys, values);
+            if generator.below(3) == 0 {
+                store.drop_fact(fact)
+            } else {
+                store.put(fact).unwrap_or(false)
+            }
+        })
+        .map(u32::from)
+        .fold(0, u32::wrapping_add);
     Work {
         changes,
         count: store.count(),
