@@ -144,6 +144,16 @@ impl Tally {
             "rows of answers: {}; bits set {}, bits clear {}",
             self.rows, self.answers.yes, self.answers.no
         )?;
-        println!(rt; "differences {}", self.differences)
+        println!(rt; "differences {}", self.differences)?;
+        println!(rt; "differences made: 3, counted: {}", counted_differences())
     }
+}
+
+/// How many differences are counted of three that are made: a comparison that always held would show only here.
+fn counted_differences() -> Count {
+    let mut tally = Tally::default();
+    tally.value(Mode::Plain, Form::True, Value::Yes, Value::No);
+    tally.row(&[true], 0);
+    tally.row(&[], 1);
+    tally.differences
 }
