@@ -108,6 +108,7 @@ fn time_growing(rt: &HostRuntime, table: &Table, yes: usize) -> anyhow::Result<(
     let grown = grown?;
     let found = judged::count_true(|rule, state| growing::is_true(&grown, rule, state));
     ensure!(found == yes, "the record that grows comes to other values");
+    println!(rt; "growing record: {found} true")?;
     eprintln!(rt; "growing record: {micros}")?;
     Ok(())
 }
