@@ -107,8 +107,8 @@ impl<'t> EvaluatedRecord<'t> {
 
     /// One more state, with its row; refused with no room for it, or a stamp that is not later than the last, and the
     /// record is then as it was.
-    /// Cost: a look at the value of each node at each state from the first with an undecided value on, and the window of
-    /// each that is undecided; no allocation.
+    /// Cost: a look at the value of each node at each state from the first with an undecided value on, and, for each that is
+    /// undecided, the states up to its window's end; no allocation.
     /// A finished record takes states too, and then works out every value anew.
     pub fn push(&mut self, stamp: u64, row: u64) -> Result<(), Misfit>
         ensures answer { result ≡ state_fit self.old.stamps.items stamp }

@@ -157,7 +157,7 @@ impl<K: Truth, L: Leaves<K>, S: Standing<K>> Evaluation<'_, K, L, S> {
 
     /// Puts the values of every node at every state into their places, but for those that stand.
     /// Cost: a look at each value from the first state on that is to be looked at, and for each that does not stand the
-    /// states of its window.
+    /// states up to its window's end.
     // Stays: `m` is the place of a node, which the values are written by, and not only the node.
     pub fn settle_all(&self, values: &mut [K])
         requires within { Fits self.now values.old }
@@ -180,7 +180,8 @@ fn has_room(states: usize, nodes: usize, places: usize) -> bool
 /// Puts the value of node m at state i to place i * nodes + m of `values`, for every node of the table at every state,
 /// or refuses and leaves `values` as it was.
 /// `pending` is what an open mark is where it is not no: undecided while the record runs, no once it is finished.
-/// Cost: for each temporal operator the states times those up to its window's end; no room beyond `values`.
+/// Cost: each node at each state once, and there, for a temporal operator, the states up to its window's end; no room
+/// beyond `values`.
 pub fn evaluate<K: Truth, L: Leaves<K>>(
     table: &Table,
     stamps: &[u64],

@@ -6,8 +6,8 @@ use truth::Three;
 
 /// Room for 512 states with the values of 64 nodes at each.
 // Stays: stamps and rows are two vectors: a record takes both as they are, and the evaluator takes stamps as a slice.
-// Stays: the room is said of each vector, here and elsewhere. A vector type that has its room would be seen as a list, and
-// published clauses speak of `.items`.
+// Stays: the room is said of each vector, here and elsewhere. Published clauses say `.stamps.items`, and a type between would
+// change each of them.
 #[derive(Drop)]
 pub struct RecordRoom {
     pub(crate) stamps: Vec<u64>,

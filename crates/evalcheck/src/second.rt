@@ -44,6 +44,7 @@ impl From<Three> for Value {
 }
 
 /// Whether states may still follow the last one.
+// Stays: a type of its own, so that the second evaluator shares no error with the first.
 #[derive(Clone, Copy, PartialEq, Eq, Debug)]
 pub enum End {
     Open,
@@ -102,7 +103,6 @@ impl Outlook<'_> {
         }
     }
 
-    // Stays: each function that calls a parameter has to ask that it may.
     fn next<F: Fn(usize) -> Value>(self, value: F) -> Value
         requires { F.IsAlwaysCallable value }
     {
@@ -126,6 +126,7 @@ impl Outlook<'_> {
     }
 
     /// The greatest value from the state on within the window, and what the record leaves open.
+    // Stays: each function that calls a closure or hands it on has to ask that it may.
     fn ahead<F: FnMut(usize) -> Value>(self, open: Value, value: F) -> Value
         requires { (state : F) (j : _) → F.pre state j }
     {

@@ -61,7 +61,7 @@ pub struct Item {
 
 impl Item {
     /// The number that it is; every item but a number has the number 0. Cost: constant.
-    // Stays: the word `end` counts as 0 where the next argument is held to be no smaller, so there is no none to answer.
+    // Stays: reading goes on with the number of every argument, and its definition gives the word `end` 0, so there is no none.
     pub fn number(self) -> i64
         ensures { result ≡ item_number self }
     {

@@ -105,6 +105,7 @@ impl<'a> Cursor<'a> {
 
 impl Place {
     /// The place past a byte that stands here.
+    // Stays: apart from `past`, for which a run would have to be made of the one byte and its class.
     fn after(self, byte: u8) -> Place
         requires line { self.line + 1 < 2 ^ 64 }
         requires byte { self.byte + 1 < 2 ^ 64 }

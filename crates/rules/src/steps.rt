@@ -43,6 +43,7 @@ impl<'a> Reader<'a> {
     fn item(&mut self) -> Result<Item, ReadFault>
         ensures { Reads result (next any (state_of self.old)) (state_of self.new) }
     {
+        // Stays: with `ok_or_else(|| self.misfit())` the check did not prove `returns`.
         match self.items.take() {
             Some(item) => Ok(item),
             None => Err(self.misfit()),
@@ -61,7 +62,7 @@ impl<'a> Reader<'a> {
     }
 
     // Stays: apart from `word`, since one function for any test would owe in its contract how the closure's answer is the
-    // test's, and each of the two has two lines.
+    // test's, which is more than either body.
     pub(crate) fn argument(&mut self, slot: Slot, before: i64) -> Result<Item, ReadFault>
         ensures { Reads result (next (fits_slot slot before) (state_of self.old)) (state_of self.new) }
     {
@@ -83,6 +84,7 @@ impl<'a> Reader<'a> {
     pub(crate) fn opening(&mut self, levels: usize) -> Result<Form, ReadFault>
         ensures { Reads result (form-opening levels (state_of self.old)) (state_of self.new) }
     {
+        // The place is looked at only where it is told.
         if levels == 0 || self.opened >= 64 {
             let place = self.items.place();
             self.expect(Kind::Open)?;

@@ -106,7 +106,7 @@ impl<'t, S: Store> Session<'t, S> {
 
     /// Makes the store's facts the next state, at the stamp. A refused commit gives the slip back.
     /// Cost: the row of the table's queries, a look at the value of each node at each state from the first with an
-    /// undecided value on, and the window of each that is undecided; no allocation.
+    /// undecided value on, and, for each that is undecided, the states up to its window's end; no allocation.
     ///
     /// Refused with 24 if the stamp is above 4,000,000,000, 51 if the slip is not the open change's, 55 if the stamp
     /// is not later than the last, 56 if 512 states are committed.

@@ -52,7 +52,7 @@ impl<'t, S: Store> Session<'t, S> {
     }
 
     /// Closes the record, with or without states. Cost: a look at the value of each node at each state from the first with
-    /// an undecided value on, and the window of each that is undecided; no allocation.
+    /// an undecided value on, and, for each that is undecided, the states up to its window's end; no allocation.
     ///
     /// Refused with 52 while a change is open, 53 after finish.
     pub fn finish(&mut self) -> Result<(), SessionFault>

@@ -108,6 +108,7 @@ pub struct State {
 }
 
 /// Whether states may still follow the last one.
+// Stays: a type of its own, so that this evaluator shares no error with the other check's.
 #[derive(Clone, Copy, PartialEq, Eq)]
 pub enum End {
     Open,

@@ -202,32 +202,42 @@ fn one_round<S: Store + Drop, F: FnOnce(&mut Round<'_, '_, S>) -> Result<(), All
     played
 }
 
+/// A round over list stores of that many places, and one over grids.
+fn over_both<
+    F: FnOnce(&mut Round<'_, '_, ListStore>) -> Result<(), AllocError>,
+    G: FnOnce(&mut Round<'_, '_, GridStore>) -> Result<(), AllocError>,
+>(
+    heap: Global,
+    table: &Table,
+    places: usize,
+    generator: &mut Generator,
+    tally: &mut Tally,
+    on_lists: F,
+    on_grids: G,
+) -> Result<(), AllocError>
+    requires lists { F.IsAlwaysCallable on_lists }
+    requires grids { G.IsAlwaysCallable on_grids }
+{
+    let lists = (ListStore::new(heap, places)?, ListStore::new(heap, places)?);
+    let model = Model::of_list(heap, places);
+    one_round(heap, table, lists, model, generator, tally, on_lists)?;
+    let grids = (GridStore::new(), GridStore::new());
+    let model = Model::of_grid(heap);
+    one_round(heap, table, grids, model, generator, tally, on_grids)
+}
+
 /// Random rounds over both stores.
 pub fn random_rounds(rt: &HostRuntime, table: &Table, tally: &mut Tally) -> anyhow::Result<()> {
-    let heap = rt.alloc();
     let mut generator = Generator::new(20_261_118);
     let before = tally.answers;
     for _ in 0..40 {
-        let lists = (ListStore::new(heap, 9)?, ListStore::new(heap, 9)?);
-        let model = Model::of_list(heap, 9);
-        one_round(
-            heap,
+        over_both(
+            rt.alloc(),
             table,
-            lists,
-            model,
+            9,
             &mut generator,
             tally,
             |round| round.play(),
-        )?;
-        let grids = (GridStore::new(), GridStore::new());
-        let model = Model::of_grid(heap);
-        one_round(
-            heap,
-            table,
-            grids,
-            model,
-            &mut generator,
-            tally,
             |round| round.play(),
         )?;
     }
@@ -240,29 +250,16 @@ pub fn random_rounds(rt: &HostRuntime, table: &Table, tally: &mut Tally) -> anyh
 
 /// The limits over both stores: what `cases` has against constants, here the model says too.
 pub fn limit_rounds(rt: &HostRuntime, table: &Table, tally: &mut Tally) -> anyhow::Result<()> {
-    let heap = rt.alloc();
+    // No call of these is drawn.
     let mut generator = Generator::new(0);
     let before = tally.answers;
-    let lists = (ListStore::new(heap, 70)?, ListStore::new(heap, 70)?);
-    let model = Model::of_list(heap, 70);
-    one_round(
-        heap,
+    over_both(
+        rt.alloc(),
         table,
-        lists,
-        model,
+        70,
         &mut generator,
         tally,
         |round| round.limits(),
-    )?;
-    let grids = (GridStore::new(), GridStore::new());
-    let model = Model::of_grid(heap);
-    one_round(
-        heap,
-        table,
-        grids,
-        model,
-        &mut generator,
-        tally,
         |round| round.limits(),
     )?;
     let answers = tally.answers.wrapping_sub(before);
