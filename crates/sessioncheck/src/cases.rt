@@ -366,6 +366,8 @@ impl Cases<'_, '_> {
 }
 
 /// Every case over both stores, and a line that says how many answers were compared.
+// Stays: table and tally go to three functions of two files and on to each round, which takes the tally for itself; a struct
+// of both would be made for these calls and taken apart in each.
 pub fn both_stores(rt: &HostRuntime, table: &Table, tally: &mut Tally) -> anyhow::Result<()> {
     let mut cases = Cases { table, tally };
     cases.play_all(rt.alloc())?;
