@@ -1,15 +1,16 @@
 -- The facts of a grid of words.
-use Rattle.std.specs.Prelude.{◌≡◌, ℕ, zero, suc, ◌+◌, ◌-◌, ◌*◌, ◌/◌, ◌%◌, ◌^◌, ◌<◌, ◌≤◌, Bool, true, false, not, ◌&&◌, ◌||◌, ltb, List, [], ◌∷◌, length, replicate, ℤ, pos, negsuc, Some, None, Option, ◌==◌, ◌≢◌, bit_and, bit_or, count_ones, int_le, int_lt, nat_eq, nat_le, slice_index, slice_index_or, slice_set, unsigned_abs, refl}
-use Rattle.std.proofs.Common.{sym, ap, ◌∙◌, subst, ⊎_elim, zero-le, suc-le-suc, le_of_suc-le-suc, not-suc-le-zero, pow-suc, arith, lit<}
+use Rattle.std.specs.Prelude.{◌≡◌, ℕ, zero, suc, ◌+◌, ◌-◌, ◌*◌, ◌/◌, ◌%◌, ◌^◌, ◌<◌, ◌≤◌, Bool, true, false, not, ◌&&◌, ◌||◌, T, ltb, ◌⊎◌, List, [], ◌∷◌, length, drop, replicate, ℤ, pos, negsuc, Some, None, Option, ◌==◌, ◌≢◌, bit_and, bit_or, count_ones, int_le, int_lt, nat_eq, nat_le, slice_index, slice_index_or, slice_set, unsigned_abs, refl}
+use Rattle.std.proofs.Common.{sym, ap, ◌∙◌, subst, ⊎_elim, zero-le, suc-le-suc, le_of_suc-le-suc, not-suc-le-zero, pow-suc, arith, add-one, lit<}
 use Rattle.std.specs.List.{sum_by}
 use Rattle.std.specs.Bool.{then_some}
 use Rattle.std.specs.Int.{int_max}
+use Rattle.std.specs.Int.Signed.{non_neg, yes_non_neg}
 use Rattle.std.specs.Int.Count.{ones_step}
 use Rattle.std.proofs.lemmas.Nat.{ones-le}
 use Rattle.std.proofs.lemmas.List.Sums.{sum_by-cons}
 use Rattle.std.proofs.lemmas.Bool.Decides.{nat_tests}
 use Rattle.std.proofs.lemmas.Int.{ints}
-use Rattle.std.proofs.lemmas.List.{length-append, length-set, get_or-set_same, get_or-set_other}
+use Rattle.std.proofs.lemmas.List.{length-append, length-set, get_or-set_same, get_or-set_other, drop_more, drop_all}
 use Rattle.std.proofs.lemmas.Bool.{and_from, both_ways, or_cases, or_from, or_left, or_right, eqb-true, eqb-false, eq-eqb, cases_eq, and_right, ne_eqb, leb-true, le-leb, ltb-true, ltb-false, cases_lt}
 use Rattle.store.specs.declared.facts.Fact.{Fact}
 use Rattle.store.specs.Facts.{before, same, rising, holds, with_fact, without_fact, at_or_after, first_from, fact_of, in_range}
@@ -277,6 +278,10 @@ module _ (ws : List ℕ) (size : length ws ≡ 1024) (f : Fact) (t : grid_takes 
       (λ u. changed (λ a b. not a && b) (λ b. refl) bits g u ∙ sym (holds_without g f (words_facts 0 ws)))
       (λ u. not_held changed_words changed_size g u ∙ sym (holds_without g f (words_facts 0 ws) ∙ and_right _ _ (not_held ws size g u))))
 
+pub taken_not_negative : (f : Fact) → grid_takes f ≡ true → T (non_neg f.value)
+unfolding grid_takes
+taken_not_negative f h = yes_non_neg (grind (arith, nat_tests, ints))
+
 word_none : (i v n : ℕ) → word_facts i v n 0 ≡ []
 word_none i v zero = refl
 word_none i v (suc n) = word_none i (suc v) n
@@ -341,6 +346,16 @@ words_count i (w ∷ ws) h =
     let rest = words_count (suc i) ws (λ k l. h (suc k) (suc-le-suc l)) in
     rw (length-append (row_facts i w) (words_facts (suc i) ws)) (omega (arith, here, rest, sum_by-cons count_ones w ws))
 
+pub count_more : (ws : List ℕ) (i : ℕ) → i < length ws → slice_index ws i < 2 ^ 64 → length (words_facts i (drop i ws)) ≡ count_ones (slice_index ws i) + length (words_facts (i + 1) (drop (i + 1) ws))
+count_more ws i l h =
+    ap (λ (xs : List ℕ). length (words_facts i xs)) (drop_more ws i 0 l)
+    ∙ length-append (row_facts i (slice_index ws i)) (words_facts (suc i) (drop (i + 1) ws))
+    ∙ ap (λ (n : ℕ). n + length (words_facts (suc i) (drop (i + 1) ws))) (row_count i (slice_index ws i) h)
+    ∙ ap (λ (n : ℕ). count_ones (slice_index ws i) + length (words_facts n (drop (i + 1) ws))) (sym (add-one i))
+
+pub count_all : (ws : List ℕ) (i : ℕ) → length ws ≤ i → length (words_facts i (drop i ws)) ≡ 0
+count_all ws i l = ap (λ (xs : List ℕ). length (words_facts i xs)) (drop_all i ws l)
+
 -- ---- the walk, key by key
 
 pub low_at_once : (start : Fact) (key : ℕ) → start.key < key → LowBit start key (Some 0)
@@ -349,6 +364,17 @@ low_at_once start key h = (lit< tt, at)
   where
     at : (v : ℕ) → v < 64 → at_or_after start (fact_of start.relation key (pos v)) ≡ nat_le 0 v
     at v l = grind (arith, nat_tests, ints)
+
+pub low_at_zero : (start : Fact) (key : ℕ) → start.key ≤ key → int_le start.value (pos 0) ≡ true → LowBit start key (Some 0)
+unfolding at_or_after before
+low_at_zero start key h z = (lit< tt, at)
+  where
+    at : (v : ℕ) → v < 64 → at_or_after start (fact_of start.relation key (pos v)) ≡ nat_le 0 v
+    at v l = grind (arith, nat_tests, ints)
+
+pub low_at_none : (start : Fact) (key : ℕ) → start.key ≡ key → int_lt (pos 63) start.value ≡ true → LowBit start key None
+unfolding at_or_after before
+low_at_none start key h z v l = grind (arith, nat_tests, ints)
 
 same_key : (start : Fact) (key v : ℕ) → key ≡ start.key → at_or_after start (fact_of start.relation key (pos v)) ≡ not (int_lt (pos v) start.value)
 unfolding at_or_after before
@@ -428,12 +454,13 @@ module _ (ws : List ℕ) (size : length ws ≡ 1024) (start : Fact) where
   none_met : ((y : Fact) → holds y (words_facts 0 ws) ≡ true → at_or_after start y ≢ true) → None ≡ first_from start (words_facts 0 ws)
   none_met h = first_none start (words_facts 0 ws) (λ y m. by_bool (at_or_after start y) (λ e. absurd (h y m e)) (λ e. e))
 
-  pub walk_outside : 15 < start.relation → None ≡ first_from start (words_facts 0 ws)
+  pub walk_outside : (15 < start.relation) ⊎ ((start.relation ≤ 15) × (63 < start.key)) → None ≡ first_from start (words_facts 0 ws)
   walk_outside o =
       none_met (λ y m e.
       let p = taken_parts y (held_taken ws size y m) in
       let r = first_relation start y e in
-      omega (arith, p.0))
+      let k = met_key start y e in
+      ⊎_elim (λ a. omega (arith, p.0)) (λ a. omega (arith, a.1, p.1)) o)
 
   pub walk_end : (key : ℕ) → 64 ≤ key → Passed key → None ≡ first_from start (words_facts 0 ws)
   walk_end key h passed = none_met (λ y m e. omega (arith, (taken_parts y (held_taken ws size y m)).1, passed y m e))

@@ -1,8 +1,9 @@
 -- A fact's place in a rising list.
-use Rattle.std.specs.Prelude.{◌≡◌, ℕ, zero, suc, ◌+◌, ◌-◌, ◌++◌, take, drop, ◌<◌, ◌≤◌, true, false, cond, ◌||◌, List, [], ◌∷◌, length, None, Ok, Err, Result, MatchResult, ◌==◌, slice_index_or, refl}
+use Rattle.std.specs.Prelude.{◌≡◌, ℕ, zero, suc, ◌+◌, ◌-◌, ◌++◌, take, drop, ◌<◌, ◌≤◌, true, false, cond, ◌||◌, List, [], ◌∷◌, length, None, Some, Ok, Err, Result, MatchResult, ◌==◌, slice_index_or, refl}
 use Rattle.std.proofs.Common.{sym, ap, ◌∙◌, subst, ⊎_elim, zero-le, suc-le-suc, le_of_suc-le-suc, not-suc-le-zero, le_refl, arith}
 use Rattle.std.specs.List.{insert, remove, slice_get, copy_within}
 use Rattle.std.proofs.Math.Seq.{take-paste}
+use Rattle.std.proofs.lemmas.Option.{none-some, get_or_from_slice_get, slice_get-get_or, slice_get_cases, slice_get_within}
 use Rattle.std.proofs.lemmas.List.{take_rest, length-drop}
 use Rattle.std.specs.List.Sorted.{IsNonDecreasingBy, IsPartitionPoint, IsPartitionedBy, IsBinarySearchResult, IsSearchInRange}
 use Rattle.std.specs.declared.cmp.Ordering.{Ordering}
@@ -76,6 +77,24 @@ closed_up xs i h =
     ∙ ap (λ ys. take i xs ++ ys) (take_rest xs (i + 1))
     ∙ ap (λ k. take i xs ++ drop k xs) next
 
+-- ---- the steps of a binary search
+
+pub position_above : (f : Fact) (xs : List Fact) (m : ℕ) (x : Fact) → rising xs ≡ true → m < length xs → x ≡ slice_index_or xs m x → before x f ≡ true → m < position f xs
+position_above f [] m x r l e h = absurd (not-suc-le-zero l)
+position_above f (y ∷ ys) zero x r l e h = let k : before y f ≡ true = rw e at h in rw k (suc-le-suc zero-le)
+position_above f (y ∷ ys) (suc m) x r l e h =
+    let l' : m < length ys = le_of_suc-le-suc l in
+    let above : before y x ≡ true = rw (sym e) at (before_all_getD y ys m x l' (and_parts _ _ r).0) in
+    let k : before y f ≡ true = before_trans y x f above h in
+    rw k (suc-le-suc (position_above f ys m x (and_parts _ _ r).1 l' e h))
+
+pub position_below : (f : Fact) (xs : List Fact) (m : ℕ) (x : Fact) → m < length xs → x ≡ slice_index_or xs m x → before x f ≡ false → position f xs ≤ m
+position_below f [] m x l e h = absurd (not-suc-le-zero l)
+position_below f (y ∷ ys) zero x l e h = let k : before y f ≡ false = rw e at h in rw k zero-le
+position_below f (y ∷ ys) (suc m) x l e h =
+    let rest = position_below f ys m x (le_of_suc-le-suc l) e h in
+    elim (before y f) as (λ b. cond b (suc (position f ys)) 0 ≤ suc m) [ true ↦ suc-le-suc rest | false ↦ zero-le ]
+
 -- ---- what an insertion and a removal keep
 
 pub in_range_with : (f : Fact) (xs : List Fact) → in_range f ≡ true → all_in_range xs ≡ true → all_in_range (with_fact f xs) ≡ true
@@ -122,6 +141,12 @@ none_later s x (y ∷ ys) e q h =
 
 -- ---- what stands at a fact's place
 
+pub nth_is : (xs : List Fact) (n : ℕ) (x : Fact) → slice_get xs n ≡ Some x → x ≡ slice_index_or xs n x
+nth_is xs n x e = sym (get_or_from_slice_get xs n x x e)
+
+pub nth_none : (xs : List Fact) (n : ℕ) → slice_get xs n ≡ None → n < length xs → ⊥
+nth_none xs n e l = ⊎_elim (λ p. none-some p.0 (sym e ∙ p.2)) (λ p. omega (arith, p.0)) (slice_get_cases xs n).1
+
 first_here : (s : Fact) (xs : List Fact) → rising xs ≡ true → first_from s xs ≡ of_start s (slice_get xs (position s xs))
 first_here s [] r = refl
 first_here s (x ∷ xs) r =
@@ -136,6 +161,29 @@ first_here s (x ∷ xs) r =
 
 pub place : (f : Fact) (xs : List Fact) (n : ℕ) → rising xs ≡ true → n ≡ position f xs → Place f xs n
 place f xs n r e = rw e (record { is = refl; first = first_here f xs r })
+
+pub found_at : (f : Fact) (xs : List Fact) (n : ℕ) (x : Fact) → rising xs ≡ true → n ≡ position f xs → slice_get xs n ≡ Some x → same f x ≡ true → FoundAt f xs n
+found_at f xs n x r e g s =
+    let g' : slice_get xs (position f xs) ≡ Some x = rw e at g in
+    let l : position f xs < length xs = slice_get_within xs (position f xs) x g' in
+    let s' : same f (slice_index_or xs (position f xs) x) ≡ true = subst (λ (y : Fact). same f y ≡ true) (nth_is xs (position f xs) x g') s in
+    let h = holds_at f xs x l s' in
+    rw e (record {
+      within = l;
+      held = h;
+      stays = with_present f xs r h;
+      out = without_at f xs x r l s';
+    })
+
+pub absent_here : (f : Fact) (xs : List Fact) (n : ℕ) (d : Fact) → rising xs ≡ true → n ≡ position f xs → (n < length xs → same f (slice_index_or xs n d) ≡ false) → AbsentAt f xs n
+absent_here f xs n d r e s =
+    let h = absent_at f xs d r (rw e at s) in
+    rw e (record {
+      within = position_le f xs;
+      missing = h;
+      stays = without_absent f xs h;
+      into = with_absent f xs d (rw e at s);
+    })
 
 -- ---- what the library's searches answer
 
@@ -191,35 +239,19 @@ searchable f xs r =
     searchable_from_sorted fact_cmp_total (λ x. x) xs f
     (λ k d _ h. is_lt_before _ _ ∙ before_asym _ _ (rising_at xs k (k + 1) d r (omega arith) h))
 
-found_at : (f : Fact) (xs : List Fact) (n : ℕ) → rising xs ≡ true → n < length xs → slice_index_or xs n f ≡ f → FoundAt f xs n
-found_at f xs n r l e =
+found_where : (f : Fact) (xs : List Fact) (n : ℕ) → rising xs ≡ true → n < length xs → slice_index_or xs n f ≡ f → FoundAt f xs n
+found_where f xs n r l e =
     let p : n ≡ position f xs = position_at f xs n (omega arith)
     (λ k h. subst (λ (x : Fact). before (slice_index_or xs k f) x ≡ true) e (rising_at xs k n f r h l))
     (λ _. subst (λ (x : Fact). before x f ≡ false) (sym e) (before_irrefl f)) in
-    let l' : position f xs < length xs = rw p at l in
-    let s : same f (slice_index_or xs (position f xs) f) ≡ true = rw p at (subst (λ (x : Fact). same f x ≡ true) (sym e) (same_refl f)) in
-    let h = holds_at f xs f l' s in
-    rw p (record {
-      within = l';
-      held = h;
-      stays = with_present f xs r h;
-      out = without_at f xs f r l' s;
-    })
+    found_at f xs n f r p (slice_get-get_or xs n f l ∙ ap Some e) (same_refl f)
 
 absent_at_place : (f : Fact) (xs : List Fact) (n : ℕ) → rising xs ≡ true → n ≤ length xs → IsPartitionPoint (λ y. fact_cmp y f ≡ Less) (λ y. fact_cmp y f ≡ Greater) xs n → AbsentAt f xs n
 absent_at_place f xs n r l at =
     let after : n < length xs → before f (slice_index_or xs n f) ≡ true = λ h. greater_before _ f (at.1 n f (le_refl n) h) in
     let p : n ≡ position f xs = position_at f xs n l (λ k h. less_before _ f (at.0 k f zero-le h)) (λ h. before_asym f _ (after h)) in
-    let other : n < length xs → same f (slice_index_or xs n f) ≡ false = λ h. before_not_same f _ (after h) in
-    let s : position f xs < length xs → same f (slice_index_or xs (position f xs) f) ≡ false = rw p at other in
-    let h = absent_at f xs f r s in
-    rw p (record {
-      within = position_le f xs;
-      missing = h;
-      stays = without_absent f xs h;
-      into = with_absent f xs f s;
-    })
+    absent_here f xs n f r p (λ h. before_not_same f _ (after h))
 
 pub searched : (f : Fact) (xs : List Fact) (r : Result ℕ ℕ) → rising xs ≡ true → IsSearchInRange r (length xs) → IsBinarySearchResult (λ y. fact_cmp y f) xs r → MatchResult r (FoundAt f xs) (AbsentAt f xs)
-searched f xs (Ok n) r l at = found_at f xs n r l (equal_is _ f (at f))
+searched f xs (Ok n) r l at = found_where f xs n r l (equal_is _ f (at f))
 searched f xs (Err n) r l at = absent_at_place f xs n r l (at (searchable f xs r))

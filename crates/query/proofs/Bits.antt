@@ -1,5 +1,5 @@
 -- The bits of a row are the answers of the nodes.
-use Rattle.std.proofs.Common.{◌≡◌, ℕ, zero, suc, ◌+◌, ◌*◌, ◌/◌, ◌%◌, ◌^◌, ◌<◌, Bool, false, cond, eqb, List, [], ◌∷◌, length, get_or, reverse, ◌++◌, fold, sym, refl, ap, ◌∙◌, arith, add-one, pow_mono, length-append}
+use Rattle.std.proofs.Common.{◌≡◌, ℕ, zero, suc, ◌+◌, ◌*◌, ◌/◌, ◌%◌, ◌^◌, ◌<◌, Bool, false, cond, eqb, List, [], ◌∷◌, length, get_or, reverse, ◌++◌, fold, sym, refl, ap, ◌∙◌, arith, add-one, lit<, pow_mono, length-append}
 use native.Mathlib.Nat.{pow-succ', div-div-eq-div-mul, zero-div}
 use Rattle.std.proofs.lemmas.List.{reverse-append}
 use Rattle.std.proofs.lemmas.Bool.Decides.{nat_tests}
@@ -40,6 +40,10 @@ pub row_fold : (nodes : List Node) (facts : List Fact) → fold (with_bit facts)
 row_fold [] facts = refl
 row_fold (x ∷ xs) facts =
     rw (reverse-append (x ∷ []) xs, fold_push (with_bit facts) 0 (reverse xs) x, row_fold xs facts) (omega arith)
+
+pub row_small : (nodes : List Node) (facts : List Fact) → row_of nodes facts < 2 ^ length nodes
+row_small [] facts = lit< tt
+row_small (x ∷ xs) facts = let rest = row_small xs facts in rw (pow-succ' 2 (length xs)) (grind arith)
 
 -- a row of n bits grows to n + 1, and one of fewer than 64 has room for one more
 pub row_grows : {A : Type 0} (xs : List A) (x : A) (b : Bool) {r s : ℕ} → r < 2 ^ length xs → s ≡ 2 * r + cond b 1 0 → s < 2 ^ length (xs ++ (x ∷ []))
