@@ -1,10 +1,10 @@
 -- A fact's place in a rising list.
 use Rattle.std.specs.Prelude.{◌≡◌, ℕ, zero, suc, ◌+◌, ◌-◌, ◌++◌, take, drop, ◌<◌, ◌≤◌, true, false, cond, ◌||◌, List, [], ◌∷◌, length, None, Some, Ok, Err, Result, MatchResult, ◌==◌, slice_index_or, refl}
 use Rattle.std.proofs.Common.{sym, ap, ◌∙◌, subst, ⊎_elim, zero-le, suc-le-suc, le_of_suc-le-suc, not-suc-le-zero, le_refl, arith}
-use Rattle.std.specs.List.{insert, remove, slice_get, copy_within}
-use Rattle.std.proofs.Math.Seq.{take-paste}
+use Rattle.std.specs.List.{insert, remove, slice_get}
+use Rattle.std.proofs.Math.Seq.{take-append-add, take-append_seam}
 use Rattle.std.proofs.lemmas.Option.{none-some, get_or_from_slice_get, slice_get-get_or, slice_get_cases, slice_get_within}
-use Rattle.std.proofs.lemmas.List.{take_rest, length-drop}
+use Rattle.std.proofs.lemmas.List.{append_assoc, take_all, length-append, length-take, length-drop}
 use Rattle.std.specs.List.Sorted.{IsNonDecreasingBy, IsPartitionPoint, IsPartitionedBy, IsBinarySearchResult, IsSearchInRange}
 use Rattle.std.specs.declared.cmp.Ordering.{Ordering}
 use Rattle.std.specs.declared.cmp.Ordering.TheVariants.{Less, Equal, Greater}
@@ -66,34 +66,33 @@ without_at f (x ∷ xs) d r l e =
     let a : before_all f xs ≡ true = rw (same_eq f x s) (and_parts _ _ r).0 in
     rw (k, s) (without_absent f xs (absent_before_all f xs a)))
 
--- the elements behind the i-th, moved down by one, and the last one let go
-pub closed_up : {X : Type 0} → (xs : List X) (i : ℕ) → i < length xs → take (length xs - 1) (copy_within xs (i + 1) (length xs) i) ≡ remove xs i
-closed_up xs i h =
-    let n : ℕ = length xs - (i + 1) in
-    let e : i + n ≡ length xs - 1 = omega arith in
-    let next : i + 1 ≡ suc i = omega arith in
-    ap (λ k. take k (copy_within xs (i + 1) (length xs) i)) (sym e)
-    ∙ take-paste xs i (drop (i + 1) xs) n (omega arith) (omega (length-drop (i + 1) xs, arith))
-    ∙ ap (λ ys. take i xs ++ ys) (take_rest xs (i + 1))
-    ∙ ap (λ k. take i xs ++ drop k xs) next
+one_more : {X : Type 0} (xs : List X) (i : ℕ) → drop 1 (drop i xs) ≡ drop (suc i) xs
+one_more xs zero = refl
+one_more [] (suc i) = refl
+one_more (x ∷ xs) (suc i) = one_more xs i
 
--- ---- the steps of a binary search
+-- what stands before the last of n
+all_but_last : {X : Type 0} (p w : List X) (n : ℕ) → n ≡ length p + 1 → take (n - 1) (take n (p ++ w)) ≡ p
+all_but_last p w n e =
+    let less : n - 1 ≡ length p = omega (arith, e) in
+    ap (λ k. take (n - 1) (take k (p ++ w))) e ∙ ap (take (n - 1)) (take-append-add p w 1) ∙ ap (λ k. take k (p ++ take 1 w)) less ∙ take-append_seam p (take 1 w)
 
-pub position_above : (f : Fact) (xs : List Fact) (m : ℕ) (x : Fact) → rising xs ≡ true → m < length xs → x ≡ slice_index_or xs m x → before x f ≡ true → m < position f xs
-position_above f [] m x r l e h = absurd (not-suc-le-zero l)
-position_above f (y ∷ ys) zero x r l e h = let k : before y f ≡ true = rw e at h in rw k (suc-le-suc zero-le)
-position_above f (y ∷ ys) (suc m) x r l e h =
-    let l' : m < length ys = le_of_suc-le-suc l in
-    let above : before y x ≡ true = rw (sym e) at (before_all_getD y ys m x l' (and_parts _ _ r).0) in
-    let k : before y f ≡ true = before_trans y x f above h in
-    rw k (suc-le-suc (position_above f ys m x (and_parts _ _ r).1 l' e h))
-
-pub position_below : (f : Fact) (xs : List Fact) (m : ℕ) (x : Fact) → m < length xs → x ≡ slice_index_or xs m x → before x f ≡ false → position f xs ≤ m
-position_below f [] m x l e h = absurd (not-suc-le-zero l)
-position_below f (y ∷ ys) zero x l e h = let k : before y f ≡ false = rw e at h in rw k zero-le
-position_below f (y ∷ ys) (suc m) x l e h =
-    let rest = position_below f ys m x (le_of_suc-le-suc l) e h in
-    elim (before y f) as (λ b. cond b (suc (position f ys)) 0 ≤ suc m) [ true ↦ suc-le-suc rest | false ↦ zero-le ]
+-- the elements from the i-th on, turned so that it stands last, and the last one let go
+pub turned_out : {X : Type 0} (xs r post rest : List X) (i n : ℕ) → i < length xs → n ≡ length xs → r ≡ drop 1 (take (length xs - i) (drop i xs)) ++ take 1 (take (length xs - i) (drop i xs))
+    → take (n - 1) (take n ((take i xs ++ (r ++ post)) ++ rest)) ≡ remove xs i
+turned_out {X = X} xs r post rest i n h m e =
+    let behind : take (length xs - i) (drop i xs) ≡ drop i xs = take_all (length xs - i) (drop i xs) (omega (length-drop i xs, arith)) in
+    let next : drop 1 (drop i xs) ≡ drop (suc i) xs = one_more xs i in
+    let b : List X = drop (suc i) xs in
+    let t : List X = take 1 (drop i xs) in
+    let r' : r ≡ b ++ t = e ∙ ap (λ ys. drop 1 ys ++ take 1 ys) behind ∙ ap (λ ys. ys ++ t) next in
+    let parts : (take i xs ++ (r ++ post)) ++ rest ≡ remove xs i ++ (t ++ (post ++ rest)) =
+    ap (λ ys. (take i xs ++ (ys ++ post)) ++ rest) r'
+    ∙ append_assoc (take i xs) ((b ++ t) ++ post) rest
+    ∙ ap (λ ys. take i xs ++ ys) (append_assoc (b ++ t) post rest ∙ append_assoc b t (post ++ rest))
+    ∙ sym (append_assoc (take i xs) b (t ++ (post ++ rest))) in
+    let one_less : n ≡ length (remove xs i) + 1 = omega (m, length-append (take i xs) b, length-take i xs, length-drop (suc i) xs, arith) in
+    ap (λ ys. take (n - 1) (take n ys)) parts ∙ all_but_last (remove xs i) (t ++ (post ++ rest)) n one_less
 
 -- ---- what an insertion and a removal keep
 
