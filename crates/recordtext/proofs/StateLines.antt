@@ -1,9 +1,8 @@
 -- The lines of states.
-use Rattle.std.proofs.Common.{rules, ◌≡◌, ℕ, ◌+◌, ◌-◌, ◌^◌, ◌<◌, ◌≤◌, true, false, cond, eqb, ltb, List, [], ◌∷◌, ◌++◌, length, get_or, take, drop, Some, None, Ok, Err, Option, Result, IsUtf8, codes, decimal, sym, refl, ap, ◌∙◌, subst, ap₂, ⊎_elim, append_assoc, append-nil, arith, take-append-drop, take_all, length-drop}
+use Rattle.std.proofs.Common.{rules, ◌≡◌, ℕ, ◌+◌, ◌-◌, ◌^◌, ◌<◌, ◌≤◌, true, false, cond, eqb, ltb, List, [], ◌∷◌, ◌++◌, length, get_or, take, drop, Some, None, Ok, Err, Result, IsUtf8, codes, decimal, sym, refl, ap, ◌∙◌, subst, ap₂, ⊎_elim, append_assoc, append-nil, arith, take-append-drop, take_all, length-drop}
 use Rattle.std.specs.Result.{MatchResult, result_ok}
-use Rattle.std.specs.Str.Pattern.{FindsTextPrefix, StripsPrefix}
 use Rattle.std.specs.List.{All, position, position_or_len}
-use Rattle.std.proofs.lemmas.List.{length-append, length_push, get_or_append_left, get_or_at, get_or_push, take_at, take_more, append_cancel_right, append_cancel_left}
+use Rattle.std.proofs.lemmas.List.{length-append, length_push, get_or_append_left, get_or_at, get_or_push, take_at, take_more, append_cancel_right}
 use Rattle.std.proofs.lemmas.List.Elements.{All-append, All-from_recursion, All-from_get_or, All-get_or}
 use Rattle.std.proofs.lemmas.List.Sums.{position_or_len_is}
 use Rattle.std.proofs.lemmas.List.Quantifiers.{position-Some}
@@ -12,31 +11,17 @@ use Rattle.std.proofs.lemmas.Fmt.{IsAscii-decimal}
 use Rattle.std.proofs.lemmas.Bool.{cases_lt, cond-true, lt-ltb, ne_eqb, eqb-true}
 use Rattle.std.proofs.lemmas.Str.{IsUtf8-from_ascii}
 use Rattle.std.proofs.lemmas.Str.Ascii.{IsAscii-from_all, All-from_ascii}
-use Rattle.recordtext.specs.declared.state.State.{State}
 use Rattle.recordtext.specs.Texts.{state_body, state_line, record_text, Small}
-use Rattle.recordtext.specs.Reads.{numbers, Numbers, Body}
+use Rattle.recordtext.specs.Reads.{numbers}
 use Rattle.recordtext.proofs.Spelling.{decimal_lacks}
 
 -- ---- the parts of a line
 
--- what `ok` keeps of a result
+-- what `ok` loses of a result
 module _ {T E : Type 0} (P : T → Type 0) (Q : E → Type 0) where
-  pub at_some : (r : Result T E) (x : T) → Some x ≡ result_ok r → MatchResult r P Q → P x
-  at_some (Ok y) x e h = subst P (same_Some y x (sym e)) h
-  at_some (Err y) x e h = absurd (none-some x (sym e))
-
   pub at_none : (r : Result T E) → None ≡ result_ok r → MatchResult r P Q → (y : E) × Q y
   at_none (Ok y) e h = absurd (none-some y e)
   at_none (Err y) e h = (y, h)
-
--- a line that is text begins with what was stripped
-pub whole_of : (line text numbers : List ℕ) → text ≡ line → StripsPrefix (FindsTextPrefix (codes "(state ")) text numbers → line ≡ codes "(state " ++ numbers
-whole_of line text numbers same (n, found, is, len) = sym same ∙ found.1 ∙ ap (λ xs. codes "(state " ++ xs) (sym is)
-
--- and what was stripped off the line of a state leaves its numbers
-pub body_from : (line rest : List ℕ) (r : Option State) → line ≡ codes "(state " ++ rest → Numbers rest r → Body line r
-body_from line rest None whole none = λ t w ts ws is. none t w ts ws (append_cancel_left (codes "(state ") rest (numbers t w) (sym whole ∙ is))
-body_from line rest (Some s) whole (is, fit) = (whole ∙ ap (λ xs. codes "(state " ++ xs) is, fit)
 
 -- two numbers put together again
 pub numbers_from : (text pair stamp row : List ℕ) → text ≡ pair ++ (41 ∷ []) → pair ≡ stamp ++ (32 ∷ row) → text ≡ stamp ++ (codes " " ++ (row ++ codes ")"))
@@ -53,12 +38,15 @@ module _ (t w : ℕ) (ts : t < 2 ^ 64) (ws : w < 2 ^ 64) where
   pub stamp_lacks_space : (k : ℕ) → k < length (decimal t) → get_or (decimal t) k 0 ≡ 32 → ⊥
   stamp_lacks_space = decimal_lacks 32 t ts (λ h. omega (arith, h.0))
 
-  pub body_utf8 : IsUtf8 (state_body t w)
-  body_utf8 =
+  numbers_ascii : All (λ b. b < 128) (numbers t w)
+  numbers_ascii =
       let P : ℕ → Type 0 = λ b. b < 128 in
-      IsUtf8-from_ascii (state_body t w) (IsAscii-from_all (state_body t w)
-      (joined_all P (codes "(state ") (decimal t) (codes " ") (decimal w) (codes ")") (All-from_recursion P (codes "(state ") (search rules)) (All-from_ascii (decimal t) (IsAscii-decimal t ts))
-      (All-from_recursion P (codes " ") (search rules)) (All-from_ascii (decimal w) (IsAscii-decimal w ws)) (All-from_recursion P (codes ")") (search rules))))
+      All-append P (decimal t) _ (All-from_ascii (decimal t) (IsAscii-decimal t ts))
+      (All-append P (codes " ") _ (All-from_recursion P (codes " ") (search rules))
+      (All-append P (decimal w) (codes ")") (All-from_ascii (decimal w) (IsAscii-decimal w ws)) (All-from_recursion P (codes ")") (search rules))))
+
+  pub numbers_utf8 : IsUtf8 (numbers t w)
+  numbers_utf8 = IsUtf8-from_ascii (numbers t w) (IsAscii-from_all (numbers t w) numbers_ascii)
 
   number_lacks_newline : (n : ℕ) → n < 2 ^ 64 → All (λ b. eqb b 10 ≡ false) (decimal n)
   number_lacks_newline n small = All-from_get_or (λ b. eqb b 10 ≡ false) (decimal n) 0 (λ k lt. ne_eqb _ 10 (decimal_lacks 10 n small (λ h. omega (arith, h.0)) k lt))

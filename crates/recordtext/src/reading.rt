@@ -29,8 +29,9 @@ fn two_numbers(text: &str) -> Option<State>
 pub fn state_of(line: &[u8]) -> Option<State>
     ensures { Body line.now result }
 {
-    let line = std::str::from_utf8(line).ok()?;
-    two_numbers(line.strip_prefix("(state ")?)
+    // The front is looked at first, so that a line of another form costs no more than that.
+    let numbers = line.strip_prefix(b"(state ")?;
+    two_numbers(std::str::from_utf8(numbers).ok()?)
 }
 
 /// The state on the first line of a text. Cost: linear in that line.
