@@ -1,30 +1,38 @@
 //! Bytes written in printable text.
 use std::alloc::{AllocError, Global};
 
-/// The byte that an escape stands for, from after its backslash, and the text that follows it.
-fn parse_escape(text: &str) -> Option<(u8, &str)> {
-    if let Some(rest) = text.strip_prefix('n') {
-        return Some((b'\n', rest));
+/// The value of a hexadecimal digit, 0 for any other byte.
+// Stays: `to_digit` also takes upper-case digits, which stand for 0 here.
+fn digit(b: u8) -> u8 {
+    match b {
+        b'0'..=b'9' => b - b'0',
+        b'a'..=b'f' => b - b'a' + 10,
+        _ => 0,
     }
-    let (digits, rest) = text.strip_prefix('x')?.split_at_checked(2)?;
-    let byte = u8::from_str_radix(digits, 16).ok()?;
-    Some((byte, rest))
 }
 
-/// The bytes that a text stands for: `\n` is a newline, `\x0d` the byte 13, and every other byte itself; none if a
-/// backslash begins something else.
-pub fn unescape(heap: Global, text: &str) -> Result<Option<Vec<u8>>, AllocError> {
-    let mut out = Vec::new(heap);
-    let mut pieces = text.split('\\');
-    if let Some(plain) = pieces.next() {
-        out.extend_from_slice(plain.as_bytes())?;
+/// The first byte that a text stands for, and the text that follows; none where nothing is left, or an escape is cut off.
+fn first_byte(text: &[u8]) -> Option<(u8, &[u8])> {
+    match text {
+        [b'\\', b'x', high, low, rest @ ..] => Some((digit(*high) << 4 | digit(*low), rest)),
+        [] | [b'\\'] | [b'\\', b'x', ..] => None,
+        [b'\\', _, rest @ ..] => Some((b'\n', rest)),
+        [plain, rest @ ..] => Some((*plain, rest)),
     }
-    for piece in pieces {
-        let Some((byte, rest)) = parse_escape(piece) else {
-            return Ok(None);
+}
+
+/// The bytes that a text stands for: `\x0d` is the byte 13, a backslash with any other byte, as `\n`, a newline, and every
+/// other byte itself.
+pub fn unescape(heap: Global, text: &str) -> Result<Vec<u8>, AllocError> {
+    let mut out = Vec::new(heap);
+    let mut rest = text.as_bytes();
+    // Each turn takes a byte at least.
+    for _ in 0..text.len() {
+        let Some((byte, after)) = first_byte(rest) else {
+            break;
         };
         out.push(byte)?;
-        out.extend_from_slice(rest.as_bytes())?;
+        rest = after;
     }
-    Ok(Some(out))
+    Ok(out)
 }
