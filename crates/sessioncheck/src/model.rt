@@ -67,6 +67,16 @@ fn in_range(fact: Fact) -> Result<(), Refused> {
     refuse_if(fact.relation >= 16 || !IN_RANGE.has(fact), 23)
 }
 
+/// Whether two facts have the same parts.
+// Stays: by its parts, since the comparison that `Fact` derives is the stores' own, which are what is tested.
+fn equal(a: Fact, b: Fact) -> bool {
+    a.relation == b.relation && a.key == b.key && a.value == b.value
+}
+
+fn has(facts: &[Fact], fact: Fact) -> bool {
+    facts.iter().any(|other| equal(*other, fact))
+}
+
 /// The open change: the facts at its begin, and how many alterations it has.
 #[derive(Drop)]
 struct Change {
@@ -146,7 +156,7 @@ impl Model {
     fn put(&mut self, fact: Fact) -> Result<Done, ModelError> {
         self.takes(fact)?;
         let change = opened(&mut self.change)?;
-        if self.facts.contains(&fact) {
+        if has(self.facts.as_slice(), fact) {
             return Ok(Done::Altered(false));
         }
         refuse_if(change.altered >= 64, 57)?;
@@ -159,11 +169,11 @@ impl Model {
     fn drop_fact(&mut self, fact: Fact) -> Answer {
         in_range(fact)?;
         let change = opened(&mut self.change)?;
-        if !self.facts.contains(&fact) {
+        if !has(self.facts.as_slice(), fact) {
             return Ok(Done::Altered(false));
         }
         refuse_if(change.altered >= 64, 57)?;
-        self.facts.retain(|other| *other != fact);
+        self.facts.retain(|other| !equal(*other, fact));
         change.altered = change.altered.saturating_add(1);
         Ok(Done::Altered(true))
     }

@@ -1,4 +1,5 @@
 //! A grid with every bit set, and a list store with every place used.
+use crate::steps::parts;
 use gridstore::GridStore;
 use liststore::ListStore;
 use store::{Fact, Store, StoreFault};
@@ -33,7 +34,7 @@ impl<S: Store> Filled<'_, S> {
         let name = self.name;
         let added = count_taken(|fact| self.store.put(fact) == Ok(true));
         let count = self.store.count();
-        let met = count_taken(|fact| self.store.walk(fact) == Some(fact));
+        let met = count_taken(|fact| self.store.walk(fact).map(parts) == Some(parts(fact)));
         let present = count_taken(|fact| self.store.put(fact) == Ok(false));
         println!(rt;
             "{name} filled: put 1: {added}, count: {count}, walk met: {met}, put 0: {present}"

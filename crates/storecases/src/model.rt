@@ -1,7 +1,8 @@
 //! A set of facts kept the plainest way, to hold the stores to: facts in no order, looked through one by one.
+use crate::steps::parts;
 use std::alloc::{AllocError, Global};
 use std::ops::RangeInclusive;
-use store::{Fact, StoreFault};
+use store::Fact;
 
 #[derive(Drop)]
 pub struct Model {
@@ -45,19 +46,21 @@ impl Model {
     }
 
     pub fn contains(&self, fact: Fact) -> bool {
-        self.members.contains(&fact)
+        self.members
+            .iter()
+            .any(|member| parts(*member) == parts(fact))
     }
 
-    /// Whether the fact was absent, or why it is refused.
-    pub fn put(&mut self, fact: Fact) -> Result<Result<bool, StoreFault>, AllocError> {
+    /// Whether the fact was absent, or the number of the refusal.
+    pub fn put(&mut self, fact: Fact) -> Result<Result<bool, u8>, AllocError> {
         if !self.takes(fact) {
-            return Ok(Err(StoreFault::NotTaken));
+            return Ok(Err(31));
         }
         if self.contains(fact) {
             return Ok(Ok(false));
         }
         if self.count() == self.places {
-            return Ok(Err(StoreFault::Full));
+            return Ok(Err(58));
         }
         self.members.push(fact)?;
         Ok(Ok(true))
@@ -65,7 +68,8 @@ impl Model {
 
     /// Whether the fact was present.
     pub fn drop_fact(&mut self, fact: Fact) -> bool {
-        let Some(i) = self.members.iter().position(|member| *member == fact) else {
+        let here = |member: &Fact| parts(*member) == parts(fact);
+        let Some(i) = self.members.iter().position(here) else {
             return false;
         };
         self.members.remove(i);
@@ -76,7 +80,9 @@ impl Model {
         self.members
             .iter()
             .copied()
-            .filter(|member| member.relation == start.relation && *member >= start)
-            .min()
+            .filter(|member| {
+                member.relation == start.relation && parts(*member) >= parts(start)
+            })
+            .min_by_key(|member| parts(*member))
     }
 }

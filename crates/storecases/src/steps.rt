@@ -17,12 +17,19 @@ pub struct Step {
     pub fact: Fact,
 }
 
-/// What a call came to: the method's own answer.
+/// What a call came to: the method's answer, a refusal as its number and a fact as its parts.
+// Stays: three calls have three kinds of answer, and none of them is a failure.
 #[derive(Clone, Copy, PartialEq, Eq)]
 pub enum Outcome {
-    Put(Result<bool, StoreFault>),
+    Put(Result<bool, u8>),
     Dropped(bool),
-    Walked(Option<Fact>),
+    Walked(Option<(u8, u32, i32)>),
+}
+
+/// A fact's relation, key and value. Facts are compared by these here, since the comparisons that `Fact` derives are the
+/// stores' own.
+pub fn parts(fact: Fact) -> (u8, u32, i32) {
+    (fact.relation, fact.key, fact.value)
 }
 
 // Stays: `contains` and `takes` stand beside nothing: they are the answers of two questions.
@@ -72,9 +79,9 @@ pub fn random_step(generator: &mut Generator, tables: Tables) -> Step {
 pub fn play<S: Store>(store: &mut S, step: Step) -> Answer {
     let fact = step.fact;
     let outcome = match step.call {
-        Call::Put => Outcome::Put(store.put(fact)),
+        Call::Put => Outcome::Put(store.put(fact).map_err(StoreFault::number)),
         Call::Drop => Outcome::Dropped(store.drop_fact(fact)),
-        Call::Walk => Outcome::Walked(store.walk(fact)),
+        Call::Walk => Outcome::Walked(store.walk(fact).map(parts)),
     };
     Answer {
         outcome,
@@ -92,7 +99,7 @@ pub fn expect(model: &mut Model, step: Step) -> Result<Answer, AllocError> {
     let outcome = match step.call {
         Call::Put => Outcome::Put(model.put(fact)?),
         Call::Drop => Outcome::Dropped(model.drop_fact(fact)),
-        Call::Walk => Outcome::Walked(model.walk(fact)),
+        Call::Walk => Outcome::Walked(model.walk(fact).map(parts)),
     };
     Ok(Answer {
         outcome,

@@ -1,7 +1,6 @@
 //! How many answers of each kind were compared.
 use crate::steps::{Answer, Outcome};
 use std::fmt;
-use store::StoreFault;
 
 #[derive(Clone, Copy, Default)]
 pub struct Tally {
@@ -21,8 +20,8 @@ impl Tally {
         let times = match answer.outcome {
             Outcome::Put(Ok(true)) => &mut self.added,
             Outcome::Put(Ok(false)) => &mut self.present,
-            Outcome::Put(Err(StoreFault::NotTaken)) => &mut self.not_taken,
-            Outcome::Put(Err(StoreFault::Full)) => &mut self.full,
+            Outcome::Put(Err(number)) if number == 31 => &mut self.not_taken,
+            Outcome::Put(Err(_)) => &mut self.full,
             Outcome::Dropped(true) => &mut self.dropped,
             Outcome::Dropped(false) => &mut self.absent,
             Outcome::Walked(Some(_)) => &mut self.met,
