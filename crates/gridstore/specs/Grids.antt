@@ -300,10 +300,10 @@ no_words n = ap (λ (xs : List Fact). record { facts = xs; takes = grid_takes; r
 -- ---- the operations at a fact that is taken
 
 module _ (ws : List ℕ) (size : length ws ≡ 1024) (f : Fact) (t : grid_takes f ≡ true) where
-  put_bit : (n p : ℕ) → n ≡ word_of f → p ≡ bit_of f → words_facts 0 (slice_set ws n (bit_or (slice_index ws n) ((1 * 2 ^ p) % 2 ^ 64))) ≡ with_fact f (words_facts 0 ws)
+  pub put_bit : (n p : ℕ) → n ≡ word_of f → p ≡ bit_of f → words_facts 0 (slice_set ws n (bit_or (slice_index ws n) ((1 * 2 ^ p) % 2 ^ 64))) ≡ with_fact f (words_facts 0 ws)
   put_bit n p i b = rw (i, b) (grid_with ws size f t (bit_or (slice_index ws (word_of f)) ((1 * 2 ^ bit_of f) % 2 ^ 64)) (bit_set (slice_index ws (word_of f)) (bit_of f) (taken_bit f t)))
 
-  clear_bit : (n p : ℕ) → n ≡ word_of f → p ≡ bit_of f → words_facts 0 (slice_set ws n (bit_and (slice_index ws n) ((2 ^ 64 - 1) - (1 * 2 ^ p) % 2 ^ 64))) ≡ without_fact f (words_facts 0 ws)
+  pub clear_bit : (n p : ℕ) → n ≡ word_of f → p ≡ bit_of f → words_facts 0 (slice_set ws n (bit_and (slice_index ws n) ((2 ^ 64 - 1) - (1 * 2 ^ p) % 2 ^ 64))) ≡ without_fact f (words_facts 0 ws)
   clear_bit n p i b = rw (i, b) (grid_without ws size f t (bit_and (slice_index ws (word_of f)) ((2 ^ 64 - 1) - (1 * 2 ^ bit_of f) % 2 ^ 64)) (bit_cleared (slice_index ws (word_of f)) (bit_of f) (taken_bit f t)))
 
   -- a clear bit leaves room
@@ -315,7 +315,7 @@ module _ (ws : List ℕ) (size : length ws ≡ 1024) (f : Fact) (t : grid_takes 
       let long : length (slice_set ws (word_of f) x) ≡ 1024 = length-set ws (word_of f) x ∙ size in
       ne_eqb _ _ (λ e. omega (arith, more, most, long))
 
-  test_bit : (n p : ℕ) → n ≡ word_of f → p ≡ bit_of f → (bit_and (slice_index ws n / 2 ^ p) 1 == 1) ≡ holds f (words_facts 0 ws)
+  pub test_bit : (n p : ℕ) → n ≡ word_of f → p ≡ bit_of f → (bit_and (slice_index ws n / 2 ^ p) 1 == 1) ≡ holds f (words_facts 0 ws)
   test_bit n p i b = rw (i, b) (bit_test (slice_index ws (word_of f)) (bit_of f) ∙ sym (held ws size f t))
 
 -- ---- the same at a place
