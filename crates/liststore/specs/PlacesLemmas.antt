@@ -94,6 +94,24 @@ turned_out {X = X} xs r post rest i n h m e =
     let one_less : n ≡ length (remove xs i) + 1 = omega (m, length-append (take i xs) b, length-take i xs, length-drop (suc i) xs, arith) in
     ap (λ ys. take (n - 1) (take n ys)) parts ∙ all_but_last (remove xs i) (t ++ (post ++ rest)) n one_less
 
+-- ---- the steps of a binary search
+
+pub position_above : (f : Fact) (xs : List Fact) (m : ℕ) (x : Fact) → rising xs ≡ true → m < length xs → x ≡ slice_index_or xs m x → before x f ≡ true → m < position f xs
+position_above f [] m x r l e h = absurd (not-suc-le-zero l)
+position_above f (y ∷ ys) zero x r l e h = let k : before y f ≡ true = rw e at h in rw k (suc-le-suc zero-le)
+position_above f (y ∷ ys) (suc m) x r l e h =
+    let l' : m < length ys = le_of_suc-le-suc l in
+    let above : before y x ≡ true = rw (sym e) at (before_all_getD y ys m x l' (and_parts _ _ r).0) in
+    let k : before y f ≡ true = before_trans y x f above h in
+    rw k (suc-le-suc (position_above f ys m x (and_parts _ _ r).1 l' e h))
+
+pub position_below : (f : Fact) (xs : List Fact) (m : ℕ) (x : Fact) → m < length xs → x ≡ slice_index_or xs m x → before x f ≡ false → position f xs ≤ m
+position_below f [] m x l e h = absurd (not-suc-le-zero l)
+position_below f (y ∷ ys) zero x l e h = let k : before y f ≡ false = rw e at h in rw k zero-le
+position_below f (y ∷ ys) (suc m) x l e h =
+    let rest = position_below f ys m x (le_of_suc-le-suc l) e h in
+    elim (before y f) as (λ b. cond b (suc (position f ys)) 0 ≤ suc m) [ true ↦ suc-le-suc rest | false ↦ zero-le ]
+
 -- ---- what an insertion and a removal keep
 
 pub in_range_with : (f : Fact) (xs : List Fact) → in_range f ≡ true → all_in_range xs ≡ true → all_in_range (with_fact f xs) ≡ true

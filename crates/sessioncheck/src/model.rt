@@ -261,7 +261,7 @@ impl Model {
             self.count(0, 0..=4) == all,
             self.count(1, i32::MIN..=i32::MAX) <= 2,
             self.refers(),
-            self.facts.contains(&Fact::new(2, 1, 3)),
+            has(self.facts.as_slice(), Fact::new(2, 1, 3)),
             self.is_level(),
         ]
     }
